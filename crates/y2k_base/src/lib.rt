@@ -11,7 +11,7 @@ mod text;
 mod twin;
 mod word;
 
-pub use edit::{Edit, Edits};
+pub use edit::{Edit, Edits, WordPlace, join_edits};
 pub use list::{Bytes, List};
 pub use memory::Memory;
 pub use picture::{PicClass, Picture, Run};
