@@ -1,4 +1,5 @@
-ghost use Rattle.std.specs.Prelude.{◌≡◌, ◌≤◌, None, IfOk, OnOk, OnErr, length};
+ghost use Rattle.std.specs.Prelude.{◌≡◌, ◌≤◌, ◌++◌, ◌↔◌, None, IfOk, IfErr, IsOk, OnOk, OnErr, length, codes, string_bytes};
+ghost use Rattle.std.specs.IoError.{error_kind};
 ghost use Rattle.shelf.specs.Causes.{HasCause, Rose};
 
 use crate::open_file::{Appending, Reading, refuse_folder};
@@ -24,7 +25,9 @@ pub struct FolderShelf<R: Files> {
 impl<R: Files + AllocGlobal> FolderShelf<R> {
     /// The shelf over that folder, which is made in `create` where it is missing. It takes no memory.
     pub fn new(rt: R, folder: String) -> FolderShelf<R>
-        ensures { result.faults ≡ 0 }
+        ensures rt { result.rt ≡ rt }
+        ensures folder { result.folder ≡ folder }
+        ensures faults { result.faults ≡ 0 }
     {
         FolderShelf {
             rt,
@@ -35,7 +38,9 @@ impl<R: Files + AllocGlobal> FolderShelf<R> {
         }
     }
 
-    fn path(&self, name: &str) -> io::Result<String> {
+    fn path(&self, name: &str) -> io::Result<String>
+        ensures { IfOk result (λ path. string_bytes path ≡ string_bytes self.now.folder ++ (codes "/" ++ name.now)) }
+    {
         let folder = self.folder.as_str();
         let path = format!(in self.rt.alloc(); "{folder}/{name}")?;
         Ok(path)
@@ -150,6 +155,7 @@ impl<R: Files + AllocGlobal> FolderShelf<R> {
     fn fault(&mut self, error: io::Error) -> ShelfErr
         ensures later { self.old.faults ≤ self.new.faults }
         ensures rose { Rose self.old.faults self.new.faults }
+        ensures memory { (result ≡ ShelfErr.Memory) ↔ (error_kind error ≡ ErrorKind.OutOfMemory) }
     {
         self.faults = self.faults.saturating_add(1);
         if error.kind() == ErrorKind::OutOfMemory {
@@ -161,7 +167,11 @@ impl<R: Files + AllocGlobal> FolderShelf<R> {
 }
 
 /// `None` for a file that is not there.
-fn none_if_missing<T>(error: io::Error) -> io::Result<Option<T>> {
+fn none_if_missing<T>(error: io::Error) -> io::Result<Option<T>>
+    ensures missing { IsOk result ↔ (error_kind error ≡ ErrorKind.NotFound) }
+    ensures none { IfOk result (λ found. found ≡ None) }
+    ensures others { IfErr result (λ same. same ≡ error) }
+{
     if error.kind() == ErrorKind::NotFound {
         Ok(None)
     } else {

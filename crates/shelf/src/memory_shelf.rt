@@ -66,6 +66,7 @@ impl Shelf for MemoryShelf {
 
     fn size(&mut self, name: &str) -> Result<Option<u64>, ShelfErr>
         ensures size { IfOk result (λ size. size ≡ option_map length (get (held self.old.files) name.now)) }
+        ensures err { IfErr result (λ error. error ≡ ShelfErr.Failed) }
         ensures same { held self.new.files ≡ held self.old.files }
         ensures cause { HasCause self.old.calls.faults self.new.calls.faults result }
         ensures begun { HasBegun self.old.calls self.new.calls (IsErrOf result ShelfErr.Failed) }
@@ -82,6 +83,7 @@ impl Shelf for MemoryShelf {
     fn read(&mut self, name: &str, at: u64, into: &mut [u8]) -> Result<usize, ShelfErr>
         ensures bytes { IfOk result (λ count. IsRead (bytes_of (held self.old.files) name.now) at into.old into.new count) }
         ensures at_most { IfOk result (λ count. count ≤ length into.new) }
+        ensures err { IfErr result (λ error. error ≡ ShelfErr.Failed) }
         ensures same { held self.new.files ≡ held self.old.files }
         ensures cause { HasCause self.old.calls.faults self.new.calls.faults result }
         ensures begun { HasBegun self.old.calls self.new.calls (IsErrOf result ShelfErr.Failed) }

@@ -1,4 +1,5 @@
-ghost use Rattle.std.specs.Prelude.{◌≤◌, length, IfOk, IsTrue, ◌↔◌, ◌≡◌, string_bytes};
+ghost use Rattle.std.specs.Prelude.{◌≡◌, ◌≤◌, ◌↔◌, length, IfOk, IsErr, IsTrue, string_bytes};
+ghost use Rattle.std.specs.Fs.{file_type, IsDir};
 
 use std::alloc::Global;
 use std::fs::{Metadata, OpenFile};
@@ -114,7 +115,9 @@ fn identity_of(file: &impl OpenFile) -> io::Result<FileIdentity> {
     })
 }
 
-pub(crate) fn refuse_folder(metadata: &Metadata) -> io::Result<()> {
+pub(crate) fn refuse_folder(metadata: &Metadata) -> io::Result<()>
+    ensures { IsErr result ↔ IsDir (file_type metadata.now) }
+{
     if metadata.is_dir() {
         Err(io::Error::from(ErrorKind::IsADirectory))
     } else {

@@ -15,7 +15,8 @@ pub struct StdSink<R> {
 impl<R: Print> StdSink<R> {
     /// It takes no memory.
     pub fn new(rt: R) -> StdSink<R>
-        ensures { result.faults ≡ 0 }
+        ensures rt { result.rt ≡ rt }
+        ensures faults { result.faults ≡ 0 }
     {
         StdSink { rt, faults: 0 }
     }
