@@ -1,0 +1,8 @@
+use Rattle.std.proofs.Common.{◌≡◌, ◌↔◌, ◌∙◌, subst, List, IsTrue}
+use Rattle.date_types.specs.declared.label.Fact.{Fact}
+use Rattle.date_types.specs.Facts.{IsClean}
+use Rattle.date_types.proofs.labelling.Labelling.clean.Goals as goal
+
+pub returns : goal.returns
+returns c =
+    subst (λ (facts : List Fact). IsTrue c.have_places_of_their_own.result ↔ IsClean facts) (c.deref.ensures.value ∙ c.self.view_is) c.have_places_of_their_own.ensures
