@@ -1,4 +1,8 @@
-//! The numbers that DISPLAY, PACKED-DECIMAL and BINARY items hold, read and written by their form.
+//! The numbers that DISPLAY, PACKED-DECIMAL and BINARY items of ISO 1989:1985 hold, read and written by their form.
+//!
+//! The standard leaves the bytes to the implementor. Here a DISPLAY digit is its ASCII character, and a minus that
+//! stands over a digit adds 40 hexadecimal to it. A packed number has two digits in a byte and its sign in the last
+//! half-byte. A binary number has 2, 4 or 8 bytes, the most significant first.
 #![tactic(auto)]
 
 mod binary;
