@@ -7,6 +7,8 @@ mod list;
 mod memory;
 mod picture;
 mod place;
+#[cfg(test)]
+mod tests;
 mod text;
 mod twin;
 mod word;
