@@ -16,10 +16,6 @@ label_of roles.Tens = labels.Tens
 label_of roles.Units = labels.Units
 label_of roles.Plain = labels.Plain
 
--- a year has two digits
-abbrev pub IsYear : Role → Type 0
-IsYear role = (role ≡ roles.Tens) ⊎ (role ≡ roles.Units)
-
 -- byte i holds the digit of that power
 abbrev pub HoldsPower : List (Option ℕ) → ℕ → ℕ → Type 0
 HoldsPower powers i power = slice_get powers i ≡ Some (Some power)
@@ -54,15 +50,23 @@ IsPlainByte span f = (k : ℕ) × (k < span.length) × (f ≡ fact_in span k lab
 abbrev pub IsHalfYear : Span → ℕ → ℕ → Label → Fact → Type 0
 IsHalfYear span digits power label f = f ≡ fact_in span (packed_byte digits power) label
 
--- giving the role to the digit of that power of a packed number adds the fact. No digit is made plain but where the
--- number has two digits, or where a year stands at the power
+-- a digit of a year stands at that power of a packed number
+abbrev pub HasPackedYear : List Fact → Span → ℕ → ℕ → Type 0
+HasPackedYear known span digits power = HasPackedRole known span digits power roles.Tens ⊎ HasPackedRole known span digits power roles.Units
+
+-- making the digit of that power of a packed number plain makes all of it plain: the number has two digits, or a digit of
+-- a year stands there. Else nothing is made plain
+abbrev pub MayBePlain : List Fact → Span → ℕ → ℕ → Type 0
+MayBePlain known span digits power = (power < digits) × ((digits ≡ 2) ⊎ HasPackedYear known span digits power)
+
+-- giving the role to the digit of that power of a packed number adds the fact. A year is given whole where both its digits
+-- are digits of the number
 abbrev pub GivesPacked : List Fact → Span → ℕ → ℕ → Role → Fact → Type 0
 GivesPacked known span digits power roles.Tens f = (power < digits)
     × (((unit : ℕ) × (power ≡ unit + 1) × IsPackedYear span digits unit f) ⊎ ((power ≡ 0) × IsHalfYear span digits power labels.Tens f))
 GivesPacked known span digits power roles.Units f =
     ((power + 1 < digits) × IsPackedYear span digits power f) ⊎ ((power + 1 ≡ digits) × IsHalfYear span digits power labels.Units f)
-GivesPacked known span digits power roles.Plain f = (power < digits)
-    × ((digits ≡ 2) ⊎ ((role : Role) × IsYear role × HasPackedRole known span digits power role)) × IsPlainByte span f
+GivesPacked known span digits power roles.Plain f = MayBePlain known span digits power × IsPlainByte span f
 
 -- giving the role to the digit of that power adds the fact
 abbrev pub Gives : List Fact → View → ℕ → Role → Fact → Type 0

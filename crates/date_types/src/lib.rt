@@ -6,6 +6,8 @@ mod label;
 mod labelling;
 mod order;
 mod rule;
+#[cfg(test)]
+mod tests;
 mod twins;
 
 pub use label::{Fact, Label, Role, Seed, unlike};

@@ -1,13 +1,10 @@
-// A library with one function.
+//! The least labelling that has the facts of the seeds and is closed under the rules.
 #![tactic(auto)]
 
-ghost use Rattle.std.specs.Prelude.{◌≡◌};
-ghost use Rattle.label_spread.specs.Echo.{echo_of};
+mod bytes;
+mod closure;
+mod known;
+mod packed;
+mod roles;
 
-// The `ensures` clause is the contract: what `echo` returns is `echo_of` of its argument, a definition
-// in `specs/Echo.antt`, which a caller's clause can cite too.
-pub fn echo(x: usize) -> usize
-    ensures { result ≡ echo_of x }
-{
-    x
-}
+pub use closure::spread;

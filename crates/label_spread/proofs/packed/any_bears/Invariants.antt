@@ -1,0 +1,7 @@
+use Rattle.std.proofs.Common.{ℕ, ◌<◌, Contains}
+use Rattle.date_types.specs.Facts.{fact_in}
+use Rattle.label_spread.specs.Steps.{label_on}
+use Rattle.label_spread.proofs.packed.any_bears.Given as goal
+
+abbrev pub invariant-loop-k : goal.invariant-loop-k
+invariant-loop-k l = (j : ℕ) → j < l.k → Contains l.known (fact_in l.span j (label_on l.label j)) → ⊥

@@ -1,0 +1,69 @@
+-- How a list of facts grows, and what a function that adds facts sees to.
+use Rattle.std.specs.Prelude.{◌≡◌, ◌⊎◌, ◌↔◌, ℕ, ◌<◌, ◌≤◌, List, [], ◌∷◌, ◌++◌, length, take, slice_index_or, Contains}
+use Rattle.y2k_base.specs.declared.place.BytePlace.{BytePlace}
+use Rattle.y2k_base.specs.declared.place.Span.{Span}
+use Rattle.date_types.specs.declared.label.Fact.{Fact}
+use Rattle.date_types.specs.declared.label.Label.{Label}
+use Rattle.date_types.specs.declared.label.Label.TheVariants as labels
+use Rattle.date_types.specs.declared.label.Role.{Role}
+use Rattle.date_types.specs.declared.rule.View.{View}
+use Rattle.date_types.specs.declared.rule.View.TheVariants as views
+use Rattle.date_types.specs.Facts.{place_in}
+use Rattle.date_types.specs.Roles.{HasRole, Gives}
+
+abbrev pub HaveSameFacts : List Fact → List Fact → Type 0
+HaveSameFacts xs ys = (f : Fact) → Contains xs f ↔ Contains ys f
+
+-- each fact of the one list is in the other
+abbrev pub IsPartOf : List Fact → List Fact → Type 0
+IsPartOf xs ys = (f : Fact) → Contains xs f → Contains ys f
+
+-- the new facts are the old ones and further ones, each of which follows from those before it
+pub record Extends (step : List Fact → Fact → Type 0) (old new : List Fact) : Type 0 where
+  pub longer : length old ≤ length new
+  pub front : take (length old) new ≡ old
+  pub steps : (k : ℕ) (d : Fact) → length old ≤ k → k < length new → step (take k new) (slice_index_or new k d)
+
+-- and each fact that followed from the old ones is there
+pub record Adds (step : List Fact → Fact → Type 0) (old new : List Fact) : Type 0 where
+  pub extends : Extends step old new
+  pub all : (f : Fact) → step old f → Contains new f
+
+-- and each fact that follows from nothing is there
+pub record Starts (step : List Fact → Fact → Type 0) (old new : List Fact) : Type 0 where
+  pub extends : Extends step old new
+  pub all : (f : Fact) → step [] f → Contains new f
+
+-- and each fact is there that follows from some of the old ones and this one, but not from those alone
+pub record Reacts (step : List Fact → Fact → Type 0) (fact : Fact) (old new : List Fact) : Type 0 where
+  pub extends : Extends step old new
+  pub all : (front : List Fact) (f : Fact) → IsPartOf front old → step (front ++ fact ∷ []) f → step front f ⊎ Contains new f
+
+-- and each fact that follows from the new ones is there
+pub record Closes (step : List Fact → Fact → Type 0) (old new : List Fact) : Type 0 where
+  pub extends : Extends step old new
+  pub closed : (f : Fact) → step new f → Contains new f
+
+-- the place is a byte of the span
+abbrev pub IsInSpan : Span → BytePlace → Type 0
+IsInSpan span place = (i : ℕ) × (i < span.length) × (place ≡ place_in span i)
+
+-- the place is a byte of the view
+abbrev pub IsInView : View → BytePlace → Type 0
+IsInView (views.Bytes span powers) place = IsInSpan span place
+IsInView (views.Packed span digits) place = IsInSpan span place
+IsInView views.Plain place = ⊥
+
+-- the label of byte k of a number, one of whose bytes bears this one
+abbrev pub label_on : Label → ℕ → Label
+label_on labels.Tens k = labels.Tens
+label_on labels.Units k = labels.Units
+label_on labels.Plain k = labels.Plain
+label_on (labels.Packed digits unit byte) k = labels.Packed digits unit k
+
+-- the digit of that power has the role in the one view, and giving it to that of the other adds the fact
+abbrev pub IsPassedAs : View → View → ℕ → Role → List Fact → Fact → Type 0
+IsPassedAs a b power role known f = HasRole known a power role × Gives known b power role f
+
+abbrev pub IsPassedAt : View → View → ℕ → List Fact → Fact → Type 0
+IsPassedAt a b power known f = (role : Role) × IsPassedAs a b power role known f

@@ -1,0 +1,126 @@
+ghost use Rattle.std.specs.Prelude.{◌≡◌, ◌↔◌, ◌<◌, ◌≤◌, ℕ, List, IsTrue, OnOk};
+ghost use Rattle.y2k_base.specs.declared.place.BytePlace.{BytePlace};
+ghost use Rattle.date_types.specs.declared.label.Fact.{Fact};
+ghost use Rattle.date_types.specs.declared.label.Role.{Role as AnyRole};
+ghost use Rattle.date_types.specs.declared.label.Role.TheVariants as roles;
+ghost use Rattle.date_types.specs.Roles.{HasRole, Gives, label_of};
+ghost use Rattle.date_types.specs.Forms.{IsFitView, IsPassed};
+ghost use Rattle.label_spread.specs.Steps.{Adds, IsPassedAs, IsPassedAt, IsInView};
+
+use crate::bytes::{any_byte_bears, bytes_limit, is_in_span, label_bytes};
+use crate::known::Known;
+use crate::packed::{give_packed, has_packed_role};
+use date_types::{Label, Role, View};
+use y2k_base::{BytePlace, Memory};
+
+fn label_for(role: Role) -> Label
+    ensures { result ≡ label_of role }
+{
+    match role {
+        Role::Tens => Label::Tens,
+        Role::Units => Label::Units,
+        Role::Plain => Label::Plain,
+    }
+}
+
+/// Whether the digit of that power has the role.
+fn has_role(known: &Known, view: &View, power: u8, role: Role) -> bool
+    requires { IsFitView view.now }
+    ensures { IsTrue result ↔ HasRole known.now view.now power role }
+{
+    match view {
+        View::Bytes { span, powers } => {
+            let label = label_for(role);
+            any_byte_bears(known, *span, powers.items(), power, label)
+        }
+        View::Packed { span, digits } => has_packed_role(known, *span, *digits, power, role),
+        View::Plain => role == Role::Plain,
+    }
+}
+
+/// Gives the role to the digit of that power.
+fn give_role(view: &View, power: u8, role: Role, known: &mut Known) -> Result<(), Memory>
+    requires { IsFitView view.now }
+    ensures { OnOk result (Adds (λ xs. Gives xs view.now power role) known.old known.new) }
+{
+    match view {
+        View::Bytes { span, powers } => {
+            let label = label_for(role);
+            label_bytes(*span, powers.items(), power, label, known)?;
+            Ok(())
+        }
+        View::Packed { span, digits } => {
+            give_packed(*span, *digits, power, role, known)?;
+            Ok(())
+        }
+        View::Plain => Ok(()),
+    }
+}
+
+/// A power above those of all digits of the view.
+fn power_limit(view: &View) -> u16
+    ensures small { result ≤ 256 }
+    ensures above { (known : List Fact) (power : ℕ) (role : AnyRole) (f : Fact) → Gives known view.now power role f → power < result }
+{
+    match view {
+        View::Bytes { powers, .. } => bytes_limit(powers.items()),
+        View::Packed { digits, .. } => u16::from(*digits),
+        View::Plain => 0,
+    }
+}
+
+/// Gives each role of a digit of the one view to the digit of the same power of the other.
+pub(crate) fn pass_roles(from: &View, to: &View, known: &mut Known) -> Result<(), Memory>
+    requires from { IsFitView from.now }
+    requires to { IsFitView to.now }
+    ensures { OnOk result (Adds (IsPassed from.now to.now) known.old known.new) }
+{
+    let limit = power_limit(to);
+    for power in 0..limit {
+        pass_power(from, to, power as u8, known)?;
+    }
+    Ok(())
+}
+
+/// Gives each role of the digit of that power.
+fn pass_power(from: &View, to: &View, power: u8, known: &mut Known) -> Result<(), Memory>
+    requires from { IsFitView from.now }
+    requires to { IsFitView to.now }
+    ensures { OnOk result (Adds (IsPassedAt from.now to.now power) known.old known.new) }
+{
+    pass_role(from, to, power, Role::Tens, known)?;
+    pass_role(from, to, power, Role::Units, known)?;
+    pass_role(from, to, power, Role::Plain, known)?;
+    Ok(())
+}
+
+/// Gives the role of the digit of that power, where it has it.
+fn pass_role(
+    from: &View,
+    to: &View,
+    power: u8,
+    role: Role,
+    known: &mut Known,
+) -> Result<(), Memory>
+    requires from { IsFitView from.now }
+    requires to { IsFitView to.now }
+    ensures { OnOk result (Adds (IsPassedAs from.now to.now power role) known.old known.new) }
+{
+    if has_role(known, from, power, role) {
+        give_role(to, power, role, known)?;
+        Ok(())
+    } else {
+        Ok(())
+    }
+}
+
+/// Whether the place is a byte of the view.
+pub(crate) fn is_in_view(view: &View, place: BytePlace) -> bool
+    ensures { IsTrue result ↔ IsInView view.now place }
+{
+    match view {
+        View::Bytes { span, .. } => is_in_span(*span, place),
+        View::Packed { span, .. } => is_in_span(*span, place),
+        View::Plain => false,
+    }
+}
