@@ -5,7 +5,7 @@ use Rattle.std.proofs.lemmas.List.{take-append-le, take-take, take_all, take_at,
 use Rattle.std.proofs.lemmas.List.Elements.{Contains-append_left, Contains-push, Contains-push_cases, Contains-get_or}
 use Rattle.std.proofs.Math.Seq.{get_or-append_seam}
 use Rattle.date_types.specs.declared.label.Fact.{Fact}
-use Rattle.label_spread.specs.Steps.{Extends, Adds, Reacts, IsPartOf}
+use Rattle.label_spread.specs.Steps.{Extends, Adds, Starts, Reacts, IsPartOf}
 
 -- a step at equal lists and facts
 moved : (P : List Fact → Fact → Type 0) (xs ys : List Fact) (x y : Fact) → xs ≡ ys → x ≡ y → P xs x → P ys y
@@ -138,3 +138,6 @@ Reacts-both P Q fact old mid new p q =
         ]
       ];
     }
+
+pub Starts-whole : (P : List Fact → Fact → Type 0) (old new : List Fact) → IsMonotone P → Adds P old new → Starts P old new
+Starts-whole P old new grows a = record { extends = a.extends; all = λ f h. a.all f (grows [] old f (λ g at. absurd (omega (arith, at.1))) h) }

@@ -1,7 +1,7 @@
 -- Facts that are derivable and closed are the derivable ones, and the least closed ones.
 use Rattle.std.proofs.Common.{◌≡◌, ◌⊎◌, ◌↔◌, inl, inr, ℕ, zero, suc, ◌+◌, ◌<◌, ◌≤◌, List, [], ◌∷◌, ◌++◌, length, take, get_or, slice_get, refl, sym, ap, ◌∙◌, subst, arith, Contains, All, Option, Some, None}
 use Rattle.std.proofs.lemmas.List.{get_or-take, length-take-le, take_more, take-take, take_all}
-use Rattle.std.proofs.lemmas.Option.{slice_get_within, get_or_from_slice_get}
+use Rattle.std.proofs.lemmas.Option.{slice_get_within, slice_get_cases, get_or_from_slice_get}
 use Rattle.date_types.specs.declared.label.Fact.{Fact}
 use Rattle.date_types.specs.declared.label.Seed.{Seed}
 use Rattle.date_types.specs.declared.rule.RuleInst.{RuleInst}
@@ -39,6 +39,12 @@ Taken-all P old now next le a = record {
   extends = a.extends;
   closed = λ f h. a.done f (subst (λ (xs : List Fact). P xs f) (sym (take_all next now le)) h);
 }
+
+pub ended : (now : List Fact) (next : ℕ) (read : Option Fact) → read ≡ slice_get now next → ((x : Fact) → read ≡ Some x → ⊥) → length now ≤ next
+ended now next read is none = elim (slice_get_cases now next).1 [
+  | inl here ↦ absurd (none here.0 (is ∙ here.2))
+  | inr past ↦ past.0
+]
 
 module _ (seeds : List Seed) (rules : List RuleInst) where
   -- the facts have a derivation, and each fact of a seed is there
@@ -113,3 +119,8 @@ module _ (seeds : List Seed) (rules : List RuleInst) where
     };
     least = λ others other_closed f h. derivable_in others fit other_closed f (known, derivation_of known r, (same f).0 h);
   }
+
+  -- first the facts of the seeds, then what follows from nothing, then all that follows
+  pub Reached-all : (none first second third : List Fact) → none ≡ [] → Adds (λ _. IsSeedFact seeds) none first → Starts (FollowsByOne rules) first second → Closes (FollowsByOne rules) second third → Reached third
+  Reached-all none first second third is seeded started closes =
+      Reached-more second third (Reached-more first second (Reached-seeds first (subst (λ (xs : List Fact). Adds (λ _. IsSeedFact seeds) xs first) is seeded)) started.extends) closes.extends

@@ -73,7 +73,7 @@ IsPassedAs-monotone a b power role fit xs ys f grows h =
 
 pub IsPassedAt-monotone : (a b : View) (power : ℕ) → IsFitView a → IsMonotone (IsPassedAt a b power)
 IsPassedAt-monotone a b power fit xs ys f grows h =
-    (h.0, HasRole-grows xs ys a power h.0 fit grows h.1, Gives-monotone b power h.0 xs ys f grows h.2)
+    (h.0, (HasRole-grows xs ys a power h.0 fit grows h.1.0, Gives-monotone b power h.0 xs ys f grows h.1.1))
 
 pub IsPassed-monotone : (a b : View) → IsFitView a → IsMonotone (IsPassed a b)
 IsPassed-monotone a b fit xs ys f grows h = IsPassed-local xs ys a b f fit (λ g at _. grows g at) (λ g at _. grows g at) h

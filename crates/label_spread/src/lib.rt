@@ -7,4 +7,7 @@ mod known;
 mod packed;
 mod roles;
 
+#[cfg(test)]
+mod tests;
+
 pub use closure::spread;

@@ -57,3 +57,82 @@ fn seeds(alloc: Global, facts: &[Fact]) -> Result<Vec<Seed>, Fail> {
     }
     Ok(seeds)
 }
+
+/// The labelling has just these facts.
+fn is_just(labelling: &Labelling, facts: &[Fact]) -> bool {
+    for fact in facts {
+        if !labelling.has(fact.place, fact.label) {
+            return false;
+        }
+    }
+    labelling.count() == facts.len()
+}
+
+/// The two digits of a year at the begin of the area.
+fn year(area: u32) -> [Fact; 2] {
+    [fact(area, 0, Label::Tens), fact(area, 1, Label::Units)]
+}
+
+#[test]
+fn a_move_gives_the_year_of_its_sender(rt: HostRuntime) -> Result<(), Fail> {
+    let alloc = rt.alloc();
+    let seeds = seeds(alloc, &year(0))?;
+    let mut rules = Vec::new(alloc);
+    let a = digits(alloc, 0, 6)?;
+    let b = digits(alloc, 1, 6)?;
+    rules.push(rule(RuleForm::Digits { a, b }))?;
+    let labelling = spread(alloc, seeds.as_slice(), rules.as_slice())?;
+    assert!(rt; is_just(&labelling, &[year(0)[0], year(0)[1], year(1)[0], year(1)[1]]));
+    Ok(())
+}
+
+#[test]
+fn a_packed_item_has_the_year_on_all_its_bytes(rt: HostRuntime) -> Result<(), Fail> {
+    let alloc = rt.alloc();
+    let seeds = seeds(alloc, &year(0))?;
+    let mut rules = Vec::new(alloc);
+    let a = digits(alloc, 0, 6)?;
+    let b = packed(1, 6);
+    rules.push(rule(RuleForm::Digits { a, b }))?;
+    let labelling = spread(alloc, seeds.as_slice(), rules.as_slice())?;
+    assert_eq!(rt; labelling.count(), 6);
+    for byte in 0..4 {
+        let label = Label::Packed {
+            digits: 6,
+            unit: 4,
+            byte,
+        };
+        assert!(rt; labelling.has(fact(1, u32::from(byte), label).place, label));
+    }
+    Ok(())
+}
+
+/// Moves from the first area to the second, from that to the third, and back.
+fn ring(alloc: Global, first: bool) -> Result<Vec<RuleInst>, Fail> {
+    let mut rules = Vec::new(alloc);
+    if first {
+        rules.push(rule(RuleForm::Alike {
+            a: span(0, 6),
+            b: span(1, 6),
+        }))?;
+    }
+    for (a, b) in [(1, 2), (2, 1)] {
+        rules.push(rule(RuleForm::Alike {
+            a: span(a, 6),
+            b: span(b, 6),
+        }))?;
+    }
+    Ok(rules)
+}
+
+#[test]
+fn labels_do_not_support_each_other(rt: HostRuntime) -> Result<(), Fail> {
+    let alloc = rt.alloc();
+    let seeds = seeds(alloc, &year(0))?;
+    let with = spread(alloc, seeds.as_slice(), ring(alloc, true)?.as_slice())?;
+    assert_eq!(rt; with.count(), 6);
+    assert!(rt; with.has(year(2)[1].place, Label::Units));
+    let without = spread(alloc, seeds.as_slice(), ring(alloc, false)?.as_slice())?;
+    assert!(rt; is_just(&without, &year(0)));
+    Ok(())
+}

@@ -18,5 +18,6 @@ loop-k-preserved c =
 
 pub returns : goal.returns
 returns c =
-    AddsBelow-all (λ (k : ℕ) (_ : List Fact) (f : Fact). (k < c.args.span.length) × (f ≡ fact_in c.args.span k (label_on c.args.label k))) _ _ c.loop-k.k
-    (λ k f h. omega (arith, h.0)) c.loop-k.invariant
+    AddsBelow-all (λ (k : ℕ) (_ : List Fact) (f : Fact). (k < c.args.span.length) × (f ≡ fact_in c.args.span k (label_on c.args.label k))) _ _ _ c.loop-k.k
+    (λ k ys f h. (k, h.0, h.1))
+    (λ f h. (h.0, omega (arith, h.1), (h.1, h.2))) c.loop-k.invariant
