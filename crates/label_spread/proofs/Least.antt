@@ -1,13 +1,13 @@
 -- Facts that are derivable and closed are the derivable ones, and the least closed ones.
-use Rattle.std.proofs.Common.{◌≡◌, ◌⊎◌, ◌↔◌, inl, inr, ℕ, zero, suc, ◌+◌, ◌<◌, ◌≤◌, List, [], ◌∷◌, ◌++◌, length, take, get_or, slice_get, refl, sym, ap, ◌∙◌, subst, arith, Contains, All, Option, Some, None}
+use Rattle.std.proofs.Common.{◌≡◌, ◌↔◌, inl, inr, ℕ, zero, suc, ◌+◌, ◌<◌, ◌≤◌, List, [], ◌∷◌, ◌++◌, length, take, get_or, slice_get, sym, ap, ◌∙◌, subst, arith, Contains, All, Option, Some}
 use Rattle.std.proofs.lemmas.List.{get_or-take, length-take-le, take_more, take-take, take_all}
 use Rattle.std.proofs.lemmas.Option.{slice_get_within, slice_get_cases, get_or_from_slice_get}
 use Rattle.date_types.specs.declared.label.Fact.{Fact}
 use Rattle.date_types.specs.declared.label.Seed.{Seed}
 use Rattle.date_types.specs.declared.rule.RuleInst.{RuleInst}
-use Rattle.date_types.specs.Forms.{Follows, IsFit}
+use Rattle.date_types.specs.Forms.{IsFit}
 use Rattle.label_spread.specs.Derivation.{IsSeedFact, IsStep, IsDerivation, IsDerivable, AreDerivable, IsClosed, IsLeast, FollowsByOne}
-use Rattle.label_spread.specs.Steps.{Extends, Adds, Starts, Reacts, Closes, IsPartOf}
+use Rattle.label_spread.specs.Steps.{Extends, Adds, Starts, Reacts, Closes}
 use Rattle.label_spread.proofs.Growth.{Extends-refl, Extends-trans, Extends-weaker, Extends-contains, Contains-take}
 use Rattle.label_spread.proofs.Local.{Follows-monotone}
 
@@ -24,8 +24,8 @@ Taken-more P old now more next fact is a b =
     let low : next < length now = slice_get_within now next fact is in
     let value : get_or now next fact ≡ fact = get_or_from_slice_get now next fact fact is in
     let front : take (next + 1) more ≡ take next now ++ fact ∷ [] =
-        sym (take-take (next + 1) (length now) more (omega (arith, low))) ∙ ap (take (next + 1)) b.extends.front
-        ∙ take_more now next fact low ∙ ap (λ (x : Fact). take next now ++ x ∷ []) value in
+    sym (take-take (next + 1) (length now) more (omega (arith, low))) ∙ ap (take (next + 1)) b.extends.front
+    ∙ take_more now next fact low ∙ ap (λ (x : Fact). take next now ++ x ∷ []) value in
     record {
       extends = Extends-trans P old now more a.extends b.extends;
       done = λ f h. elim (b.all (take next now) f (λ g at. Contains-take next now g at) (subst (λ (xs : List Fact). P xs f) front h)) [

@@ -1,5 +1,5 @@
 -- Only facts about bytes of a view matter to its roles.
-use Rattle.std.proofs.Common.{◌≡◌, ◌⊎◌, inl, inr, ℕ, ◌+◌, ◌<◌, ◌≤◌, List, [], ◌∷◌, ◌++◌, length, refl, sym, ap, ◌∙◌, subst, arith, Contains, Option, Some}
+use Rattle.std.proofs.Common.{◌⊎◌, inl, inr, ℕ, ◌<◌, List, [], ◌∷◌, ◌++◌, length, refl, sym, subst, arith, Contains, Some}
 use Rattle.std.proofs.lemmas.Option.{slice_get_within}
 use Rattle.std.proofs.lemmas.List.Elements.{Contains-push_cases}
 use Rattle.y2k_base.specs.declared.place.Span.{Span}
@@ -12,8 +12,8 @@ use Rattle.date_types.specs.declared.rule.View.{View}
 use Rattle.date_types.specs.declared.rule.View.TheVariants as views
 use Rattle.date_types.specs.declared.rule.RuleForm.{RuleForm}
 use Rattle.date_types.specs.declared.rule.RuleForm.TheVariants as forms
-use Rattle.date_types.specs.Facts.{fact_in, place_in}
-use Rattle.date_types.specs.Roles.{HasRole, HasPackedRole, HasPackedYear, MayBePlain, GivesPacked, Gives, HoldsPower, label_of}
+use Rattle.date_types.specs.Facts.{fact_in}
+use Rattle.date_types.specs.Roles.{HasRole, HasPackedRole, HasPackedYear, MayBePlain, GivesPacked, Gives, label_of}
 use Rattle.date_types.specs.Forms.{IsFit, IsFitView, IsPassed, IsCopied, Follows}
 use Rattle.label_spread.specs.Steps.{IsInSpan, IsInView, IsPassedAs, IsPassedAt}
 use Rattle.label_spread.proofs.Growth.{IsMonotone}
@@ -43,10 +43,13 @@ module _ (xs ys : List Fact) where
   HasPackedYear-local span digits power keeps (inr h) = inr (HasPackedRole-local span digits power roles.Units keeps h)
 
   pub MayBePlain-local : (span : Span) (digits power : ℕ) → Keeps xs ys (IsInSpan span) → MayBePlain xs span digits power → MayBePlain ys span digits power
-  MayBePlain-local span digits power keeps h = (h.0, elim h.1 [
-    | inl two ↦ inl two
-    | inr year ↦ inr (HasPackedYear-local span digits power keeps year)
-  ])
+  MayBePlain-local span digits power keeps h = (
+    h.0,
+    elim h.1 [
+      | inl two ↦ inl two
+      | inr year ↦ inr (HasPackedYear-local span digits power keeps year)
+    ],
+  )
 
   GivesPacked-local : (span : Span) (digits power : ℕ) (role : Role) (f : Fact) → Keeps xs ys (IsInSpan span) → GivesPacked xs span digits power role f → GivesPacked ys span digits power role f
   GivesPacked-local span digits power roles.Tens f keeps h = h

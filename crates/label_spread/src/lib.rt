@@ -6,7 +6,6 @@ mod closure;
 mod known;
 mod packed;
 mod roles;
-
 #[cfg(test)]
 mod tests;
 

@@ -95,13 +95,7 @@ fn pass_power(from: &View, to: &View, power: u8, known: &mut Known) -> Result<()
 }
 
 /// Gives the role of the digit of that power, where it has it.
-fn pass_role(
-    from: &View,
-    to: &View,
-    power: u8,
-    role: Role,
-    known: &mut Known,
-) -> Result<(), Memory>
+fn pass_role(from: &View, to: &View, power: u8, role: Role, known: &mut Known) -> Result<(), Memory>
     requires from { IsFitView from.now }
     requires to { IsFitView to.now }
     ensures { OnOk result (Adds (IsPassedAs from.now to.now power role) known.old known.new) }

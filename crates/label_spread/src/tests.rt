@@ -82,7 +82,12 @@ fn a_move_gives_the_year_of_its_sender(rt: HostRuntime) -> Result<(), Fail> {
     let b = digits(alloc, 1, 6)?;
     rules.push(rule(RuleForm::Digits { a, b }))?;
     let labelling = spread(alloc, seeds.as_slice(), rules.as_slice())?;
-    assert!(rt; is_just(&labelling, &[year(0)[0], year(0)[1], year(1)[0], year(1)[1]]));
+    assert!(rt;
+        is_just(
+            &labelling,
+            &[year(0)[0], year(0)[1], year(1)[0], year(1)[1]]
+        )
+    );
     Ok(())
 }
 
