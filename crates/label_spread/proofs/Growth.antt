@@ -141,3 +141,20 @@ Reacts-both P Q fact old mid new p q =
 
 pub Starts-whole : (P : List Fact → Fact → Type 0) (old new : List Fact) → IsMonotone P → Adds P old new → Starts P old new
 Starts-whole P old new grows a = record { extends = a.extends; all = λ f h. a.all f (grows [] old f (λ g at. absurd (omega (arith, at.1))) h) }
+
+-- a reaction under another name
+pub Reacts-alike : (P Q : List Fact → Fact → Type 0) (fact : Fact) (old new : List Fact) → ((xs : List Fact) (f : Fact) → P xs f → Q xs f) → ((xs : List Fact) (f : Fact) → Q xs f → P xs f) → Reacts P fact old new → Reacts Q fact old new
+Reacts-alike P Q fact old new there back a = record {
+  extends = Extends-weaker P Q old new (λ xs f known h. there xs f h) a.extends;
+  all = λ front f part h. elim (a.all front f part (back (front ++ fact ∷ []) f h)) [
+    | inl before ↦ inl (there front f before)
+    | inr at ↦ inr at
+  ];
+}
+
+-- where the condition holds, what it gives is added
+pub Adds-where : (C : List Fact → Type 0) (P : List Fact → Fact → Type 0) (old new : List Fact) → ((xs : List Fact) → IsPartOf old xs → C xs) → Adds P old new → Adds (λ xs f. C xs × P xs f) old new
+Adds-where C P old new holds a = Adds-alike P (λ xs f. C xs × P xs f) old new (λ xs f known h. (holds xs known, h)) (λ f h. h.1) a
+
+pub Adds-nowhere : (C : List Fact → Type 0) (P : List Fact → Fact → Type 0) (old : List Fact) → (C old → ⊥) → Adds (λ xs f. C xs × P xs f) old old
+Adds-nowhere C P old fails = Adds-none (λ xs f. C xs × P xs f) old (λ f h. fails h.0)

@@ -3,9 +3,11 @@
 
 mod bytes;
 mod closure;
+mod forms;
 mod known;
 mod packed;
 mod roles;
+mod sums;
 #[cfg(test)]
 mod tests;
 

@@ -1,5 +1,5 @@
 use crate::spread;
-use date_types::{Fact, Label, Labelling, Rule, RuleForm, RuleInst, Seed, View};
+use date_types::{Fact, Label, Labelling, Role, Rule, RuleForm, RuleInst, Seed, View};
 use std::alloc::Global;
 use std::test::Fail;
 use y2k_base::{AreaId, BytePlace, FileId, List, Origin, Span};
@@ -139,5 +139,86 @@ fn labels_do_not_support_each_other(rt: HostRuntime) -> Result<(), Fail> {
     assert!(rt; with.has(year(2)[1].place, Label::Units));
     let without = spread(alloc, seeds.as_slice(), ring(alloc, false)?.as_slice())?;
     assert!(rt; is_just(&without, &year(0)));
+    Ok(())
+}
+
+/// Whether the one rule gives just these facts from the seeds.
+fn gives(alloc: Global, form: RuleForm, given: &[Fact], facts: &[Fact]) -> Result<bool, Fail> {
+    let seeds = seeds(alloc, given)?;
+    let mut rules = Vec::new(alloc);
+    rules.push(rule(form))?;
+    let labelling = spread(alloc, seeds.as_slice(), rules.as_slice())?;
+    Ok(is_just(&labelling, facts))
+}
+
+fn plain(area: u32, offset: u32) -> Fact {
+    fact(area, offset, Label::Plain)
+}
+
+/// The third area is the second less the first, all of two digits.
+fn difference(alloc: Global) -> Result<RuleForm, Fail> {
+    let a = digits(alloc, 0, 2)?;
+    let b = digits(alloc, 1, 2)?;
+    let c = digits(alloc, 2, 2)?;
+    Ok(RuleForm::Difference { a, b, c })
+}
+
+/// The digit of that power of a packed item is made plain.
+fn make_plain(digits: u8, power: u8) -> RuleForm {
+    RuleForm::GiveDigit {
+        view: packed(1, digits),
+        power,
+        role: Role::Plain,
+    }
+}
+
+#[test]
+fn the_operands_of_a_sum_and_of_a_difference(rt: HostRuntime) -> Result<(), Fail> {
+    let alloc = rt.alloc();
+    let [a0, a1] = year(0);
+    let [b0, b1] = year(1);
+    let [c0, c1] = year(2);
+    let a = digits(alloc, 0, 2)?;
+    let b = digits(alloc, 1, 2)?;
+    let c = digits(alloc, 2, 2)?;
+    let sum = RuleForm::Sum { a, b, c };
+    let sum_facts = [a0, a1, plain(1, 0), plain(1, 1), c0, c1];
+    assert!(rt; gives(alloc, sum, &[a0], &sum_facts)?);
+    let difference_facts = [a0, a1, b0, b1, plain(2, 0), plain(2, 1)];
+    assert!(rt; gives(alloc, difference(alloc)?, &[a0], &difference_facts)?);
+    assert!(rt; gives(alloc, difference(alloc)?, &[], &[])?);
+    Ok(())
+}
+
+#[test]
+fn plain_is_given_to_a_packed_item_with_a_year_there(rt: HostRuntime) -> Result<(), Fail> {
+    let alloc = rt.alloc();
+    let both = [plain(1, 0), plain(1, 1)];
+    assert!(rt; gives(alloc, make_plain(2, 0), &[], &both)?);
+    assert!(rt; gives(alloc, make_plain(3, 0), &[], &[])?);
+    let label = Label::Packed {
+        digits: 3,
+        unit: 0,
+        byte: 1,
+    };
+    let year = fact(1, 1, label);
+    assert!(rt; gives(alloc, make_plain(3, 1), &[year], &[year, both[0], both[1]])?);
+    assert!(rt; gives(alloc, make_plain(3, 2), &[year], &[year])?);
+    Ok(())
+}
+
+#[test]
+fn a_year_past_the_digits_of_the_sender_is_plain(rt: HostRuntime) -> Result<(), Fail> {
+    let alloc = rt.alloc();
+    let [tens, units] = year(0);
+    for (from, count) in [(4, 4), (5, 3), (6, 2)] {
+        let seeds = seeds(alloc, &[tens, units])?;
+        let view = digits(alloc, 0, 6)?;
+        let mut rules = Vec::new(alloc);
+        rules.push(rule(RuleForm::Fill { view, from }))?;
+        let labelling = spread(alloc, seeds.as_slice(), rules.as_slice())?;
+        assert_eq!(rt; labelling.count(), count);
+        assert_eq!(rt; labelling.has(tens.place, Label::Plain), from < 6);
+    }
     Ok(())
 }

@@ -1,6 +1,6 @@
 use Rattle.date_types.specs.Forms.{IsCopied}
 use Rattle.label_spread.proofs.Growth.{Reacts-both}
-use Rattle.label_spread.proofs.closure.react.Goals as goal
+use Rattle.label_spread.proofs.forms.react_alike.Goals as goal
 
 pub returns-in_ok-copy_label-in-Alike-2 : goal.returns-in_ok-copy_label-in-Alike-2
 returns-in_ok-copy_label-in-Alike-2 c =
