@@ -4,12 +4,16 @@ use Rattle.y2k_base.specs.declared.place.Span.{Span}
 use Rattle.date_types.specs.declared.label.Fact.{Fact}
 use Rattle.date_types.specs.declared.label.Label.{Label}
 use Rattle.date_types.specs.declared.label.Role.{Role}
+use Rattle.date_types.specs.declared.label.Role.TheVariants as roles
+use Rattle.date_types.specs.declared.rows.Row.{Row}
 use Rattle.date_types.specs.declared.rule.View.{View}
 use Rattle.date_types.specs.declared.rule.View.TheVariants as views
 use Rattle.date_types.specs.declared.rule.RuleForm.{RuleForm}
 use Rattle.date_types.specs.declared.rule.RuleForm.TheVariants as forms
 use Rattle.date_types.specs.Facts.{fact_in}
 use Rattle.date_types.specs.Roles.{HasRole, Gives}
+use Rattle.date_types.specs.Rows.{add_rows, sub_rows}
+use Rattle.date_types.specs.Operands.{IsByRow}
 
 -- a byte of the one span bears the label, and the fact is that the same byte of the other does
 abbrev pub IsCopied : Span → Span → List Fact → Fact → Type 0
@@ -19,10 +23,27 @@ IsCopied a b known f = (i : ℕ) × (label : Label) × (i < a.length) × Contain
 abbrev pub IsPassed : View → View → List Fact → Fact → Type 0
 IsPassed a b known f = (power : ℕ) × (role : Role) × HasRole known a power role × Gives known b power role f
 
+-- a digit of a year stands at that power
+abbrev pub HasYearDigit : List Fact → View → ℕ → Type 0
+HasYearDigit known view power = HasRole known view power roles.Tens ⊎ HasRole known view power roles.Units
+
+-- a digit of a year stands at a power from that one on, and making that digit plain adds the fact
+abbrev pub IsFilled : View → ℕ → List Fact → Fact → Type 0
+IsFilled view from known f = (power : ℕ) × (from ≤ power) × HasYearDigit known view power × Gives known view power roles.Plain f
+
+-- the fact follows by one of the rows
+abbrev pub IsByRows : List Row → View → View → View → List Fact → Fact → Type 0
+IsByRows rows a b c known f = (row : Row) × Contains rows row × IsByRow a b c row known f
+
 -- the fact follows from the known ones by the rule
 abbrev pub Follows : RuleForm → List Fact → Fact → Type 0
+Follows (forms.Give fact) known f = f ≡ fact
+Follows (forms.GiveDigit view power role) known f = Gives known view power role f
 Follows (forms.Alike a b) known f = IsCopied a b known f ⊎ IsCopied b a known f
 Follows (forms.Digits a b) known f = IsPassed a b known f ⊎ IsPassed b a known f
+Follows (forms.Fill view from) known f = IsFilled view from known f
+Follows (forms.Sum a b c) known f = IsByRows add_rows a b c known f
+Follows (forms.Difference a b c) known f = IsByRows sub_rows a b c known f
 
 -- the bytes of a span have offsets of 32 bits
 abbrev pub IsPlaced : Span → Type 0
@@ -36,5 +57,10 @@ IsFitView views.Plain = Unit {0}
 
 -- what the calls that take rules ask of them
 abbrev pub IsFit : RuleForm → Type 0
+IsFit (forms.Give fact) = Unit {0}
+IsFit (forms.GiveDigit view power role) = IsFitView view
 IsFit (forms.Alike a b) = IsPlaced a × IsPlaced b × (a.length ≡ b.length)
 IsFit (forms.Digits a b) = IsFitView a × IsFitView b
+IsFit (forms.Fill view from) = IsFitView view
+IsFit (forms.Sum a b c) = IsFitView a × IsFitView b × IsFitView c
+IsFit (forms.Difference a b c) = IsFitView a × IsFitView b × IsFitView c

@@ -1,4 +1,6 @@
 pub mod Order
 pub mod Facts
 pub mod Roles
+pub mod Rows
+pub mod Operands
 pub mod Forms

@@ -5,6 +5,7 @@
 mod label;
 mod labelling;
 mod order;
+mod rows;
 mod rule;
 #[cfg(test)]
 mod tests;
@@ -12,4 +13,5 @@ mod twins;
 
 pub use label::{Fact, Label, Role, Seed, unlike};
 pub use labelling::Labelling;
+pub use rows::{Row, Test, Who, add_rows, sub_rows};
 pub use rule::{Rule, RuleForm, RuleInst, View};

@@ -1,3 +1,4 @@
+use crate::{Fact, Role};
 use y2k_base::{List, Origin, Span};
 
 /// Which row of the rules an instance comes from, as a chain of reasons names it.
@@ -57,20 +58,48 @@ impl Drop for View {
     }
 }
 
-/// Which facts follow from which. `Alike` passes each label of a byte of the one span to the same byte of
-/// the other, and `Digits` each role of a digit of the one view to the digit of the same power of the other,
-/// both of them either way.
+/// Which facts follow from which. `Give` gives its fact from nothing, and `GiveDigit` the role to its digit.
+/// `Alike` passes each label of a byte of the one span to the same byte of the other, and `Digits` each role
+/// of a digit of the one view to the digit of the same power of the other, both of them either way. `Fill`
+/// makes each digit of a year plain that stands at the power `from` or above. `Sum` and `Difference` are
+/// `c = a + b` and `c = b - a`: what their operands say about each other stands in the rows of `add_rows` and
+/// `sub_rows`.
 #[derive(Debug)]
 pub enum RuleForm {
+    Give { fact: Fact },
+    GiveDigit { view: View, power: u8, role: Role },
     Alike { a: Span, b: Span },
     Digits { a: View, b: View },
+    Fill { view: View, from: u8 },
+    Sum { a: View, b: View, c: View },
+    Difference { a: View, b: View, c: View },
 }
 
 impl Drop for RuleForm {
     fn drop(self) {
         match self {
+            RuleForm::Give { fact: _ } => {}
+            RuleForm::GiveDigit {
+                view: _view,
+                power: _,
+                role: _,
+            } => {}
             RuleForm::Alike { a: _, b: _ } => {}
             RuleForm::Digits { a: _a, b: _b } => {}
+            RuleForm::Fill {
+                view: _view,
+                from: _,
+            } => {}
+            RuleForm::Sum {
+                a: _a,
+                b: _b,
+                c: _c,
+            } => {}
+            RuleForm::Difference {
+                a: _a,
+                b: _b,
+                c: _c,
+            } => {}
         }
     }
 }

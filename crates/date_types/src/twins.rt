@@ -53,10 +53,30 @@ impl Twin for View {
 impl Twin for RuleForm {
     fn twin(&self, alloc: Global) -> Result<RuleForm, Memory> {
         match self {
+            RuleForm::Give { fact } => Ok(RuleForm::Give { fact: *fact }),
+            RuleForm::GiveDigit { view, power, role } => Ok(RuleForm::GiveDigit {
+                view: view.twin(alloc)?,
+                power: *power,
+                role: *role,
+            }),
             RuleForm::Alike { a, b } => Ok(RuleForm::Alike { a: *a, b: *b }),
             RuleForm::Digits { a, b } => Ok(RuleForm::Digits {
                 a: a.twin(alloc)?,
                 b: b.twin(alloc)?,
+            }),
+            RuleForm::Fill { view, from } => Ok(RuleForm::Fill {
+                view: view.twin(alloc)?,
+                from: *from,
+            }),
+            RuleForm::Sum { a, b, c } => Ok(RuleForm::Sum {
+                a: a.twin(alloc)?,
+                b: b.twin(alloc)?,
+                c: c.twin(alloc)?,
+            }),
+            RuleForm::Difference { a, b, c } => Ok(RuleForm::Difference {
+                a: a.twin(alloc)?,
+                b: b.twin(alloc)?,
+                c: c.twin(alloc)?,
             }),
         }
     }

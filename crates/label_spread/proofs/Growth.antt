@@ -1,11 +1,11 @@
 -- Lists of facts that grow by steps.
-use Rattle.std.proofs.Common.{◌≡◌, ◌⊎◌, inl, inr, ℕ, ◌+◌, ◌<◌, ◌≤◌, List, [], ◌∷◌, ◌++◌, length, take, drop, get_or, refl, sym, ap, ◌∙◌, subst, arith, Contains, length-append, add-one}
-use Rattle.std.proofs.lemmas.Bool.{cases_lt, cases_order}
-use Rattle.std.proofs.lemmas.List.{take-append-le, take-take, take_all, take_at, get_or-take, length-take-le, take_more, get_or_append_left, take-append-drop, get_or-append_right}
-use Rattle.std.proofs.lemmas.List.Elements.{Contains-append_left, Contains-push, Contains-push_cases, Contains-get_or}
+use Rattle.std.proofs.Common.{◌≡◌, ◌⊎◌, inl, inr, ℕ, ◌+◌, ◌<◌, List, [], ◌∷◌, ◌++◌, length, take, drop, get_or, refl, sym, ap, ◌∙◌, subst, arith, Contains, length-append}
+use Rattle.std.proofs.lemmas.Bool.{cases_lt}
+use Rattle.std.proofs.lemmas.List.{take-append-le, take-take, take_all, take_at, get_or-take, get_or_append_left, take-append-drop}
+use Rattle.std.proofs.lemmas.List.Elements.{Contains-append_left, Contains-push, Contains-push_cases}
 use Rattle.std.proofs.Math.Seq.{get_or-append_seam}
 use Rattle.date_types.specs.declared.label.Fact.{Fact}
-use Rattle.label_spread.specs.Steps.{Extends, Adds, Reacts, IsPartOf}
+use Rattle.label_spread.specs.Steps.{Extends, Adds, Starts, Reacts, IsPartOf}
 
 -- a step at equal lists and facts
 moved : (P : List Fact → Fact → Type 0) (xs ys : List Fact) (x y : Fact) → xs ≡ ys → x ≡ y → P xs x → P ys y
@@ -138,3 +138,23 @@ Reacts-both P Q fact old mid new p q =
         ]
       ];
     }
+
+pub Starts-whole : (P : List Fact → Fact → Type 0) (old new : List Fact) → IsMonotone P → Adds P old new → Starts P old new
+Starts-whole P old new grows a = record { extends = a.extends; all = λ f h. a.all f (grows [] old f (λ g at. absurd (omega (arith, at.1))) h) }
+
+-- a reaction under another name
+pub Reacts-alike : (P Q : List Fact → Fact → Type 0) (fact : Fact) (old new : List Fact) → ((xs : List Fact) (f : Fact) → P xs f → Q xs f) → ((xs : List Fact) (f : Fact) → Q xs f → P xs f) → Reacts P fact old new → Reacts Q fact old new
+Reacts-alike P Q fact old new there back a = record {
+  extends = Extends-weaker P Q old new (λ xs f known h. there xs f h) a.extends;
+  all = λ front f part h. elim (a.all front f part (back (front ++ fact ∷ []) f h)) [
+    | inl before ↦ inl (there front f before)
+    | inr at ↦ inr at
+  ];
+}
+
+-- where the condition holds, what it gives is added
+pub Adds-where : (C : List Fact → Type 0) (P : List Fact → Fact → Type 0) (old new : List Fact) → ((xs : List Fact) → IsPartOf old xs → C xs) → Adds P old new → Adds (λ xs f. C xs × P xs f) old new
+Adds-where C P old new holds a = Adds-alike P (λ xs f. C xs × P xs f) old new (λ xs f known h. (holds xs known, h)) (λ f h. h.1) a
+
+pub Adds-nowhere : (C : List Fact → Type 0) (P : List Fact → Fact → Type 0) (old : List Fact) → (C old → ⊥) → Adds (λ xs f. C xs × P xs f) old old
+Adds-nowhere C P old fails = Adds-none (λ xs f. C xs × P xs f) old (λ f h. fails h.0)

@@ -1,13 +1,13 @@
 -- Facts that are derivable and closed are the derivable ones, and the least closed ones.
-use Rattle.std.proofs.Common.{◌≡◌, ◌⊎◌, ◌↔◌, inl, inr, ℕ, zero, suc, ◌+◌, ◌<◌, ◌≤◌, List, [], ◌∷◌, ◌++◌, length, take, get_or, slice_get, refl, sym, ap, ◌∙◌, subst, arith, Contains, All, Option, Some, None}
+use Rattle.std.proofs.Common.{◌≡◌, ◌↔◌, inl, inr, ℕ, zero, suc, ◌+◌, ◌<◌, ◌≤◌, List, [], ◌∷◌, ◌++◌, length, take, get_or, slice_get, sym, ap, ◌∙◌, subst, arith, Contains, All, Option, Some}
 use Rattle.std.proofs.lemmas.List.{get_or-take, length-take-le, take_more, take-take, take_all}
-use Rattle.std.proofs.lemmas.Option.{slice_get_within, get_or_from_slice_get}
+use Rattle.std.proofs.lemmas.Option.{slice_get_within, slice_get_cases, get_or_from_slice_get}
 use Rattle.date_types.specs.declared.label.Fact.{Fact}
 use Rattle.date_types.specs.declared.label.Seed.{Seed}
 use Rattle.date_types.specs.declared.rule.RuleInst.{RuleInst}
-use Rattle.date_types.specs.Forms.{Follows, IsFit}
+use Rattle.date_types.specs.Forms.{IsFit}
 use Rattle.label_spread.specs.Derivation.{IsSeedFact, IsStep, IsDerivation, IsDerivable, AreDerivable, IsClosed, IsLeast, FollowsByOne}
-use Rattle.label_spread.specs.Steps.{Extends, Adds, Starts, Reacts, Closes, IsPartOf}
+use Rattle.label_spread.specs.Steps.{Extends, Adds, Starts, Reacts, Closes}
 use Rattle.label_spread.proofs.Growth.{Extends-refl, Extends-trans, Extends-weaker, Extends-contains, Contains-take}
 use Rattle.label_spread.proofs.Local.{Follows-monotone}
 
@@ -24,8 +24,8 @@ Taken-more P old now more next fact is a b =
     let low : next < length now = slice_get_within now next fact is in
     let value : get_or now next fact ≡ fact = get_or_from_slice_get now next fact fact is in
     let front : take (next + 1) more ≡ take next now ++ fact ∷ [] =
-        sym (take-take (next + 1) (length now) more (omega (arith, low))) ∙ ap (take (next + 1)) b.extends.front
-        ∙ take_more now next fact low ∙ ap (λ (x : Fact). take next now ++ x ∷ []) value in
+    sym (take-take (next + 1) (length now) more (omega (arith, low))) ∙ ap (take (next + 1)) b.extends.front
+    ∙ take_more now next fact low ∙ ap (λ (x : Fact). take next now ++ x ∷ []) value in
     record {
       extends = Extends-trans P old now more a.extends b.extends;
       done = λ f h. elim (b.all (take next now) f (λ g at. Contains-take next now g at) (subst (λ (xs : List Fact). P xs f) front h)) [
@@ -39,6 +39,12 @@ Taken-all P old now next le a = record {
   extends = a.extends;
   closed = λ f h. a.done f (subst (λ (xs : List Fact). P xs f) (sym (take_all next now le)) h);
 }
+
+pub ended : (now : List Fact) (next : ℕ) (read : Option Fact) → read ≡ slice_get now next → ((x : Fact) → read ≡ Some x → ⊥) → length now ≤ next
+ended now next read is none = elim (slice_get_cases now next).1 [
+  | inl here ↦ absurd (none here.0 (is ∙ here.2))
+  | inr past ↦ past.0
+]
 
 module _ (seeds : List Seed) (rules : List RuleInst) where
   -- the facts have a derivation, and each fact of a seed is there
@@ -113,3 +119,8 @@ module _ (seeds : List Seed) (rules : List RuleInst) where
     };
     least = λ others other_closed f h. derivable_in others fit other_closed f (known, derivation_of known r, (same f).0 h);
   }
+
+  -- first the facts of the seeds, then what follows from nothing, then all that follows
+  pub Reached-all : (none first second third : List Fact) → none ≡ [] → Adds (λ _. IsSeedFact seeds) none first → Starts (FollowsByOne rules) first second → Closes (FollowsByOne rules) second third → Reached third
+  Reached-all none first second third is seeded started closes =
+      Reached-more second third (Reached-more first second (Reached-seeds first (subst (λ (xs : List Fact). Adds (λ _. IsSeedFact seeds) xs first) is seeded)) started.extends) closes.extends

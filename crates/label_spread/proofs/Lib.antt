@@ -6,3 +6,4 @@ pub mod Passes
 pub mod Least
 pub mod Index
 pub mod Marks
+pub mod Whole

@@ -1,5 +1,5 @@
 -- Loops that add what follows by one of several after the other.
-use Rattle.std.proofs.Common.{◌≡◌, ◌⊎◌, inl, inr, ℕ, ◌+◌, ◌<◌, ◌≤◌, List, [], ◌∷◌, ◌++◌, length, get_or, refl, sym, ap, ◌∙◌, subst, arith, Contains}
+use Rattle.std.proofs.Common.{◌≡◌, ◌⊎◌, inl, inr, ℕ, ◌+◌, ◌<◌, ◌≤◌, List, [], ◌∷◌, ◌++◌, length, get_or, sym, ap, ◌∙◌, subst, arith, Contains}
 use Rattle.std.proofs.lemmas.Bool.{cases_lt}
 use Rattle.std.proofs.lemmas.List.{get_or_default}
 use Rattle.std.proofs.lemmas.List.Elements.{Contains-get_or}
@@ -133,5 +133,8 @@ module _ (P : ℕ → List Fact → Fact → Type 0) where
     ];
   }
 
-  pub AddsBelow-all : (old now : List Fact) (n : ℕ) → ((k : ℕ) (f : Fact) → P k old f → k < n) → AddsBelow old now n → Adds ByOneNumber old now
-  AddsBelow-all old now n below a = record { extends = a.extends; all = λ f h. a.all h.0 (below h.0 f h.1) f h.1 }
+  pub AddsBelow-all : (Q : List Fact → Fact → Type 0) (old now : List Fact) (n : ℕ) → ((k : ℕ) (ys : List Fact) (f : Fact) → P k ys f → Q ys f) → ((f : Fact) → Q old f → (k : ℕ) × (k < n) × P k old f) → AddsBelow old now n → Adds Q old now
+  AddsBelow-all Q old now n there back a = record {
+    extends = Extends-weaker ByOneNumber Q old now (λ ys f known h. there h.0 ys f h.1) a.extends;
+    all = λ f h. let w : (k : ℕ) × (k < n) × P k old f = back f h in a.all w.0 w.1 f w.2;
+  }

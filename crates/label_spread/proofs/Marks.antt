@@ -1,5 +1,5 @@
 -- What is given to packed numbers.
-use Rattle.std.proofs.Common.{◌≡◌, ◌⊎◌, inl, inr, ℕ, ◌+◌, ◌<◌, ◌≤◌, List, refl, sym, subst, arith, Contains}
+use Rattle.std.proofs.Common.{◌≡◌, inl, inr, ℕ, ◌+◌, ◌<◌, ◌≤◌, List, subst, arith}
 use Rattle.y2k_base.specs.declared.place.Span.{Span}
 use Rattle.date_types.specs.declared.label.Fact.{Fact}
 use Rattle.date_types.specs.declared.label.Label.TheVariants as labels

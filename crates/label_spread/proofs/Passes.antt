@@ -1,5 +1,5 @@
 -- Roles that are given where a digit has them.
-use Rattle.std.proofs.Common.{◌≡◌, ◌⊎◌, inl, inr, ℕ, List, [], ◌∷◌, ◌++◌, refl, sym, subst, Contains}
+use Rattle.std.proofs.Common.{◌⊎◌, inl, inr, ℕ, List}
 use Rattle.date_types.specs.declared.label.Fact.{Fact}
 use Rattle.date_types.specs.declared.label.Role.{Role}
 use Rattle.date_types.specs.declared.label.Role.TheVariants as roles
@@ -35,7 +35,7 @@ Adds-roles a b power old x y new fit tens units plain =
     (λ xs f known h. some_role a b power xs f h)
     (λ f h. by_role a b power old f h.0 h.1)
     (Adds-both (λ xs f. T xs f ⊎ U xs f) P old y new (IsPassedAs-monotone a b power roles.Plain fit)
-      (Adds-both T U old x y (IsPassedAs-monotone a b power roles.Units fit) tens units) plain)
+    (Adds-both T U old x y (IsPassedAs-monotone a b power roles.Units fit) tens units) plain)
 
 pub Adds-digits : (a b : View) (old mid new : List Fact) → IsFitView b → Adds (IsPassed a b) old mid → Adds (IsPassed b a) mid new → Adds (Follows (forms.Digits a b)) old new
 Adds-digits a b old mid new fit first second = Adds-both (IsPassed a b) (IsPassed b a) old mid new (IsPassed-monotone b a fit) first second

@@ -8,8 +8,12 @@ use Rattle.date_types.specs.declared.label.Label.TheVariants as labels
 use Rattle.date_types.specs.declared.label.Role.{Role}
 use Rattle.date_types.specs.declared.rule.View.{View}
 use Rattle.date_types.specs.declared.rule.View.TheVariants as views
+use Rattle.date_types.specs.declared.label.Role.TheVariants as roles
+use Rattle.date_types.specs.declared.rule.RuleForm.{RuleForm}
+use Rattle.date_types.specs.declared.rule.RuleForm.TheVariants as forms
 use Rattle.date_types.specs.Facts.{place_in}
 use Rattle.date_types.specs.Roles.{HasRole, Gives}
+use Rattle.date_types.specs.Forms.{HasYearDigit, Follows}
 
 abbrev pub HaveSameFacts : List Fact → List Fact → Type 0
 HaveSameFacts xs ys = (f : Fact) → Contains xs f ↔ Contains ys f
@@ -67,3 +71,40 @@ IsPassedAs a b power role known f = HasRole known a power role × Gives known b 
 
 abbrev pub IsPassedAt : View → View → ℕ → List Fact → Fact → Type 0
 IsPassedAt a b power known f = (role : Role) × IsPassedAs a b power role known f
+
+-- a digit of a year stands at that power, which is not below the other
+abbrev pub MayFill : List Fact → View → ℕ → ℕ → Type 0
+MayFill known view from power = (from ≤ power) × HasYearDigit known view power
+
+abbrev pub IsFilledAt : View → ℕ → ℕ → List Fact → Fact → Type 0
+IsFilledAt view from power known f = MayFill known view from power × Gives known view power roles.Plain f
+
+-- what follows by a rule that bytes are alike
+abbrev pub FollowsAlike : RuleForm → List Fact → Fact → Type 0
+FollowsAlike (forms.Give fact) known f = ⊥
+FollowsAlike (forms.GiveDigit view power role) known f = ⊥
+FollowsAlike (forms.Alike a b) known f = Follows (forms.Alike a b) known f
+FollowsAlike (forms.Digits a b) known f = ⊥
+FollowsAlike (forms.Fill view from) known f = ⊥
+FollowsAlike (forms.Sum a b c) known f = ⊥
+FollowsAlike (forms.Difference a b c) known f = ⊥
+
+-- what follows by any other rule
+abbrev pub FollowsWhole : RuleForm → List Fact → Fact → Type 0
+FollowsWhole (forms.Give fact) known f = Follows (forms.Give fact) known f
+FollowsWhole (forms.GiveDigit view power role) known f = Follows (forms.GiveDigit view power role) known f
+FollowsWhole (forms.Alike a b) known f = ⊥
+FollowsWhole (forms.Digits a b) known f = Follows (forms.Digits a b) known f
+FollowsWhole (forms.Fill view from) known f = Follows (forms.Fill view from) known f
+FollowsWhole (forms.Sum a b c) known f = Follows (forms.Sum a b c) known f
+FollowsWhole (forms.Difference a b c) known f = Follows (forms.Difference a b c) known f
+
+-- the place is a byte of one of the views that such a rule looks at
+abbrev pub Touches : RuleForm → BytePlace → Type 0
+Touches (forms.Give fact) place = ⊥
+Touches (forms.GiveDigit view power role) place = IsInView view place
+Touches (forms.Alike a b) place = ⊥
+Touches (forms.Digits a b) place = IsInView a place ⊎ IsInView b place
+Touches (forms.Fill view from) place = IsInView view place
+Touches (forms.Sum a b c) place = IsInView a place ⊎ (IsInView b place ⊎ IsInView c place)
+Touches (forms.Difference a b c) place = IsInView a place ⊎ (IsInView b place ⊎ IsInView c place)

@@ -55,7 +55,12 @@ pub(crate) fn fact_at(span: Span, index: u32, label: Label) -> Fact
 }
 
 /// Adds that the byte bears the label.
-pub(crate) fn insert_at(span: Span, index: u32, label: Label, known: &mut Known) -> Result<(), Memory>
+pub(crate) fn insert_at(
+    span: Span,
+    index: u32,
+    label: Label,
+    known: &mut Known,
+) -> Result<(), Memory>
     requires placed { IsPlaced span }
     requires within { index < span.length }
     ensures { OnOk result (Adds (λ _ f. f ≡ fact_in span index label) known.old known.new) }

@@ -1,17 +1,15 @@
-ghost use Rattle.std.specs.Prelude.{◌≡◌, ◌⊎◌, ◌↔◌, [], IsTrue, IfOk, OnOk, Contains, All};
+ghost use Rattle.std.specs.Prelude.{◌≡◌, [], IfOk, OnOk, Contains, All};
 ghost use Rattle.date_types.specs.declared.label.Fact.{Fact as AnyFact};
-ghost use Rattle.date_types.specs.declared.rule.RuleForm.TheVariants as forms;
 ghost use Rattle.date_types.specs.Order.{IsAscending};
-ghost use Rattle.date_types.specs.Forms.{IsFit, IsFitView, IsPassed, Follows};
+ghost use Rattle.date_types.specs.Forms.{IsFit};
 ghost use Rattle.label_spread.specs.Derivation.{AreDerivable, IsLeast, IsSeedFact, FollowsByOne};
-ghost use Rattle.label_spread.specs.Steps.{Adds, Starts, Reacts, Closes, IsInView};
+ghost use Rattle.label_spread.specs.Steps.{Adds, Starts, Reacts, Closes};
 
-use crate::bytes::copy_label;
+use crate::forms::{react, start};
 use crate::known::Known;
-use crate::roles::{is_in_view, pass_roles};
-use date_types::{Fact, Labelling, RuleForm, RuleInst, Seed, View};
+use date_types::{Fact, Labelling, RuleInst, Seed};
 use std::alloc::Global;
-use y2k_base::{BytePlace, Memory};
+use y2k_base::Memory;
 
 /// The least labelling that has the facts of the seeds and is closed under the rules.
 pub fn spread(alloc: Global, seeds: &[Seed], rules: &[RuleInst]) -> Result<Labelling, Memory>
@@ -57,19 +55,6 @@ fn start_all(rules: &[RuleInst], known: &mut Known) -> Result<(), Memory>
     Ok(())
 }
 
-fn start(form: &RuleForm, known: &mut Known) -> Result<(), Memory>
-    requires { IsFit form.now }
-    ensures { OnOk result (Starts (Follows form.now) known.old known.new) }
-{
-    match form {
-        RuleForm::Alike { .. } => Ok(()),
-        RuleForm::Digits { a, b } => {
-            pass_both(a, b, known)?;
-            Ok(())
-        }
-    }
-}
-
 /// Takes the known facts one after the other and adds what follows by each, until all have been taken.
 fn close(rules: &[RuleInst], known: &mut Known) -> Result<(), Memory>
     requires fit { All (λ r. IsFit r.form) rules.now }
@@ -93,54 +78,5 @@ fn react_all(rules: &[RuleInst], fact: Fact, known: &mut Known) -> Result<(), Me
     for rule in rules {
         react(&rule.form, fact, known)?;
     }
-    Ok(())
-}
-
-fn react(form: &RuleForm, fact: Fact, known: &mut Known) -> Result<(), Memory>
-    requires fit { IsFit form.now }
-    requires there { Contains known.old fact }
-    ensures { OnOk result (Reacts (Follows form.now) fact known.old known.new) }
-{
-    match form {
-        RuleForm::Alike { a, b } => {
-            copy_label(*a, *b, fact, known)?;
-            copy_label(*b, *a, fact, known)?;
-            Ok(())
-        }
-        RuleForm::Digits { a, b } => {
-            react_digits(a, b, fact, known)?;
-            Ok(())
-        }
-    }
-}
-
-fn react_digits(a: &View, b: &View, fact: Fact, known: &mut Known) -> Result<(), Memory>
-    requires a { IsFitView a.now }
-    requires b { IsFitView b.now }
-    requires there { Contains known.old fact }
-    ensures { OnOk result (Reacts (Follows (forms.Digits a.now b.now)) fact known.old known.new) }
-{
-    if is_in_either(a, b, fact.place) {
-        pass_both(a, b, known)?;
-        Ok(())
-    } else {
-        Ok(())
-    }
-}
-
-fn is_in_either(a: &View, b: &View, place: BytePlace) -> bool
-    ensures { IsTrue result ↔ (IsInView a.now place ⊎ IsInView b.now place) }
-{
-    is_in_view(a, place) || is_in_view(b, place)
-}
-
-/// Gives the roles of each view to the other.
-fn pass_both(a: &View, b: &View, known: &mut Known) -> Result<(), Memory>
-    requires a { IsFitView a.now }
-    requires b { IsFitView b.now }
-    ensures { OnOk result (Adds (Follows (forms.Digits a.now b.now)) known.old known.new) }
-{
-    pass_roles(a, b, known)?;
-    pass_roles(b, a, known)?;
     Ok(())
 }

@@ -3,8 +3,12 @@
 
 mod bytes;
 mod closure;
+mod forms;
 mod known;
 mod packed;
 mod roles;
+mod sums;
+#[cfg(test)]
+mod tests;
 
 pub use closure::spread;

@@ -3,9 +3,10 @@ ghost use Rattle.y2k_base.specs.declared.place.BytePlace.{BytePlace};
 ghost use Rattle.date_types.specs.declared.label.Fact.{Fact};
 ghost use Rattle.date_types.specs.declared.label.Role.{Role as AnyRole};
 ghost use Rattle.date_types.specs.declared.label.Role.TheVariants as roles;
+ghost use Rattle.date_types.specs.declared.rule.RuleForm.TheVariants as forms;
 ghost use Rattle.date_types.specs.Roles.{HasRole, Gives, label_of};
-ghost use Rattle.date_types.specs.Forms.{IsFitView, IsPassed};
-ghost use Rattle.label_spread.specs.Steps.{Adds, IsPassedAs, IsPassedAt, IsInView};
+ghost use Rattle.date_types.specs.Forms.{IsFitView, IsPassed, IsFilled, HasYearDigit, Follows};
+ghost use Rattle.label_spread.specs.Steps.{Adds, IsPassedAs, IsPassedAt, IsFilledAt, MayFill, IsInView};
 
 use crate::bytes::{any_byte_bears, bytes_limit, is_in_span, label_bytes};
 use crate::known::Known;
@@ -24,7 +25,7 @@ fn label_for(role: Role) -> Label
 }
 
 /// Whether the digit of that power has the role.
-fn has_role(known: &Known, view: &View, power: u8, role: Role) -> bool
+pub(crate) fn has_role(known: &Known, view: &View, power: u8, role: Role) -> bool
     requires { IsFitView view.now }
     ensures { IsTrue result ↔ HasRole known.now view.now power role }
 {
@@ -39,7 +40,7 @@ fn has_role(known: &Known, view: &View, power: u8, role: Role) -> bool
 }
 
 /// Gives the role to the digit of that power.
-fn give_role(view: &View, power: u8, role: Role, known: &mut Known) -> Result<(), Memory>
+pub(crate) fn give_role(view: &View, power: u8, role: Role, known: &mut Known) -> Result<(), Memory>
     requires { IsFitView view.now }
     ensures { OnOk result (Adds (λ xs. Gives xs view.now power role) known.old known.new) }
 {
@@ -69,8 +70,19 @@ fn power_limit(view: &View) -> u16
     }
 }
 
+/// Gives the roles of each view to the other.
+pub(crate) fn pass_both(a: &View, b: &View, known: &mut Known) -> Result<(), Memory>
+    requires a { IsFitView a.now }
+    requires b { IsFitView b.now }
+    ensures { OnOk result (Adds (Follows (forms.Digits a.now b.now)) known.old known.new) }
+{
+    pass_roles(a, b, known)?;
+    pass_roles(b, a, known)?;
+    Ok(())
+}
+
 /// Gives each role of a digit of the one view to the digit of the same power of the other.
-pub(crate) fn pass_roles(from: &View, to: &View, known: &mut Known) -> Result<(), Memory>
+fn pass_roles(from: &View, to: &View, known: &mut Known) -> Result<(), Memory>
     requires from { IsFitView from.now }
     requires to { IsFitView to.now }
     ensures { OnOk result (Adds (IsPassed from.now to.now) known.old known.new) }
@@ -95,13 +107,7 @@ fn pass_power(from: &View, to: &View, power: u8, known: &mut Known) -> Result<()
 }
 
 /// Gives the role of the digit of that power, where it has it.
-fn pass_role(
-    from: &View,
-    to: &View,
-    power: u8,
-    role: Role,
-    known: &mut Known,
-) -> Result<(), Memory>
+fn pass_role(from: &View, to: &View, power: u8, role: Role, known: &mut Known) -> Result<(), Memory>
     requires from { IsFitView from.now }
     requires to { IsFitView to.now }
     ensures { OnOk result (Adds (IsPassedAs from.now to.now power role) known.old known.new) }
@@ -112,6 +118,50 @@ fn pass_role(
     } else {
         Ok(())
     }
+}
+
+/// Makes each digit of a year plain that stands at that power or above.
+pub(crate) fn fill(view: &View, from: u8, known: &mut Known) -> Result<(), Memory>
+    requires { IsFitView view.now }
+    ensures { OnOk result (Adds (IsFilled view.now from) known.old known.new) }
+{
+    let limit = power_limit(view);
+    for power in 0..limit {
+        fill_power(view, from, power as u8, known)?;
+    }
+    Ok(())
+}
+
+/// Makes the digit of that power plain, where it is one of those.
+fn fill_power(view: &View, from: u8, power: u8, known: &mut Known) -> Result<(), Memory>
+    requires { IsFitView view.now }
+    ensures { OnOk result (Adds (IsFilledAt view.now from power) known.old known.new) }
+{
+    if may_fill(known, view, from, power) {
+        give_role(view, power, Role::Plain, known)?;
+        Ok(())
+    } else {
+        Ok(())
+    }
+}
+
+/// Whether a digit of a year stands at that power, and it is not below the other.
+fn may_fill(known: &Known, view: &View, from: u8, power: u8) -> bool
+    requires { IsFitView view.now }
+    ensures { IsTrue result ↔ MayFill known.now view.now from power }
+{
+    if power < from {
+        false
+    } else {
+        has_year_digit(known, view, power)
+    }
+}
+
+fn has_year_digit(known: &Known, view: &View, power: u8) -> bool
+    requires { IsFitView view.now }
+    ensures { IsTrue result ↔ HasYearDigit known.now view.now power }
+{
+    has_role(known, view, power, Role::Tens) || has_role(known, view, power, Role::Units)
 }
 
 /// Whether the place is a byte of the view.

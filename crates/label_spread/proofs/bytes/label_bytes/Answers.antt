@@ -12,5 +12,6 @@ loop-i-preserved c =
 
 pub returns : goal.returns
 returns c =
-    AddsBelow-all (λ (k : ℕ) (_ : List Fact) (f : Fact). HoldsPower c.args.powers.now k c.args.power × (f ≡ fact_in c.args.span k c.args.label)) _ _ c.loop-i.i
-    (λ k f h. omega (arith, slice_get_within c.args.powers.now k (Some c.args.power) h.0)) c.loop-i.invariant
+    AddsBelow-all (λ (k : ℕ) (_ : List Fact) (f : Fact). HoldsPower c.args.powers.now k c.args.power × (f ≡ fact_in c.args.span k c.args.label)) _ _ _ c.loop-i.i
+    (λ k ys f h. (k, h.0, h.1))
+    (λ f h. (h.0, omega (arith, slice_get_within c.args.powers.now h.0 (Some c.args.power) h.1), (h.1, h.2))) c.loop-i.invariant

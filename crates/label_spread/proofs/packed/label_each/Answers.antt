@@ -14,9 +14,10 @@ loop-k-preserved c =
     let low : at < span.length = omega arith in
     AddsBelow-more (λ (k : ℕ) (_ : List Fact) (f : Fact). (k < span.length) × (f ≡ fact_in span k (label_on label k))) _ _ _ at (λ xs ys f grows h. h) c.loop-k.invariant
     (Adds-alike (λ (_ : List Fact) (f : Fact). f ≡ fact_in span at (label_on label at)) (λ (_ : List Fact) (f : Fact). (at < span.length) × (f ≡ fact_in span at (label_on label at))) _ _
-      (λ xs f known h. (low, h)) (λ f h. h.1) c.in_ok-label_one.ensures)
+    (λ xs f known h. (low, h)) (λ f h. h.1) c.in_ok-label_one.ensures)
 
 pub returns : goal.returns
 returns c =
-    AddsBelow-all (λ (k : ℕ) (_ : List Fact) (f : Fact). (k < c.args.span.length) × (f ≡ fact_in c.args.span k (label_on c.args.label k))) _ _ c.loop-k.k
-    (λ k f h. omega (arith, h.0)) c.loop-k.invariant
+    AddsBelow-all (λ (k : ℕ) (_ : List Fact) (f : Fact). (k < c.args.span.length) × (f ≡ fact_in c.args.span k (label_on c.args.label k))) _ _ _ c.loop-k.k
+    (λ k ys f h. (k, h.0, h.1))
+    (λ f h. (h.0, omega (arith, h.1), (h.1, h.2))) c.loop-k.invariant

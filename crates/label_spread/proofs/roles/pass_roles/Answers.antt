@@ -10,5 +10,6 @@ loop-power-preserved c =
 
 pub returns : goal.returns
 returns c =
-    AddsBelow-all (IsPassedAt c.args.from.now c.args.to.now) _ _ c.loop-power.power
-    (λ k f h. omega (arith, c.power_limit-limit.ensures.above _ k h.0 f h.2)) c.loop-power.invariant
+    AddsBelow-all (IsPassedAt c.args.from.now c.args.to.now) _ _ _ c.loop-power.power
+    (λ k ys f h. (k, h.0, h.1.0, h.1.1))
+    (λ f h. (h.0, omega (arith, c.power_limit-limit.ensures.above _ h.0 h.1 f h.3), (h.1, (h.2, h.3)))) c.loop-power.invariant

@@ -1,5 +1,0 @@
-use Rattle.label_spread.proofs.Passes.{Adds-digits}
-use Rattle.label_spread.proofs.closure.pass_both.Goals as goal
-
-pub returns-in_ok-pass_roles-2 : goal.returns-in_ok-pass_roles-2
-returns-in_ok-pass_roles-2 c = Adds-digits c.args.a.now c.args.b.now _ _ _ c.requires.b c.in_ok-pass_roles.ensures c.in_ok-pass_roles-2.ensures
