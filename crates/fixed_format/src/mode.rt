@@ -283,87 +283,45 @@ fn step(mode: Mode, byte: u8) -> Mode
             behind_gap,
         } => front_step(expected, behind_gap, byte),
         Mode::Sign => sign_step(byte),
-        Mode::Fraction => fraction_step(byte),
+        Mode::Fraction => if is_digit(byte) {
+            Mode::Fraction
+        } else {
+            any_step(false, byte)
+        },
         Mode::Digits => digits_step(byte),
         Mode::Hyphen => hyphen_step(byte),
         Mode::Name { so_far } => name_step(so_far, byte),
-        Mode::IsI => is_i_step(byte),
-        Mode::IsIs => is_is_step(byte),
+        Mode::IsI => if byte.to_ascii_uppercase() == b'S' {
+            Mode::IsIs
+        } else {
+            picture_step(byte)
+        },
+        Mode::IsIs => if is_name_byte(byte) {
+            picture_step(byte)
+        } else {
+            front_step(Expected::Picture, false, byte)
+        },
         Mode::Picture { behind_gap: _ } => picture_step(byte),
-        Mode::PictureEqual => equal_step(byte),
-        Mode::Comparison => comparison_step(byte),
-        Mode::Literal { mark } => literal_step(mark, byte),
-        Mode::Closed { mark } => closed_step(mark, byte),
-    }
-}
-
-fn fraction_step(byte: u8) -> Mode
-    ensures { result ≡ spec.fraction_step byte }
-{
-    if is_digit(byte) {
-        Mode::Fraction
-    } else {
-        any_step(false, byte)
-    }
-}
-
-fn is_i_step(byte: u8) -> Mode
-    ensures { result ≡ spec.is_i_step byte }
-{
-    if byte.to_ascii_uppercase() == b'S' {
-        Mode::IsIs
-    } else {
-        picture_step(byte)
-    }
-}
-
-fn is_is_step(byte: u8) -> Mode
-    ensures { result ≡ spec.is_is_step byte }
-{
-    if is_name_byte(byte) {
-        picture_step(byte)
-    } else {
-        front_step(Expected::Picture, false, byte)
-    }
-}
-
-fn equal_step(byte: u8) -> Mode
-    ensures { result ≡ spec.equal_step byte }
-{
-    if byte == b'=' {
-        behind_piece()
-    } else {
-        picture_step(byte)
-    }
-}
-
-fn comparison_step(byte: u8) -> Mode
-    ensures { result ≡ spec.comparison_step byte }
-{
-    if byte == b'=' {
-        behind_piece()
-    } else {
-        any_step(false, byte)
-    }
-}
-
-fn literal_step(mark: u8, byte: u8) -> Mode
-    ensures { result ≡ spec.literal_step mark byte }
-{
-    if byte == mark {
-        Mode::Closed { mark }
-    } else {
-        Mode::Literal { mark }
-    }
-}
-
-fn closed_step(mark: u8, byte: u8) -> Mode
-    ensures { result ≡ spec.closed_step mark byte }
-{
-    if byte == mark {
-        Mode::Literal { mark }
-    } else {
-        any_step(is_gap(mark), byte)
+        Mode::PictureEqual => if byte == b'=' {
+            behind_piece()
+        } else {
+            picture_step(byte)
+        },
+        Mode::Comparison => if byte == b'=' {
+            behind_piece()
+        } else {
+            any_step(false, byte)
+        },
+        Mode::Literal { mark } => if byte == mark {
+            Mode::Closed { mark }
+        } else {
+            Mode::Literal { mark }
+        },
+        Mode::Closed { mark } => if byte == mark {
+            Mode::Literal { mark }
+        } else {
+            any_step(is_gap(mark), byte)
+        },
     }
 }
 
