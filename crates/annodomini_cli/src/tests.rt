@@ -1,0 +1,181 @@
+use crate::annodomini;
+use shelf::{MemoryShelf, MemorySink};
+use std::alloc::Global;
+use std::test::Fail;
+
+const USAGE: &str =
+    "usage: annodomini label-one SRC ITEM, label M, plan M, convert M OUT, run M JOB YYMMDD BOUND OUT, generate N OUT, agree M JOB YYMMDD BOUND OUT, update M1 M2, age M YEARS OUT, age-new M NEW YEARS OUT, contract M NEW OUT\n";
+
+const LABELS: &str = "A 0 T\nA 1 U\nB 0 T\nB 1 U\n";
+
+/// The program ONE with these entries, from line 5, and these statements before STOP RUN.
+fn program(alloc: Global, entries: &str, statements: &str) -> Result<String, Fail> {
+    let text = format!(in alloc;
+        "       IDENTIFICATION DIVISION.\n       PROGRAM-ID. ONE.\n       DATA DIVISION.\n       WORKING-STORAGE SECTION.\n{entries}       PROCEDURE DIVISION.\n       MAIN-PARA.\n{statements}           STOP RUN.\n"
+    )?;
+    Ok(text)
+}
+
+const ENTRIES: &str = "       01  A PIC 9(6).\n       01  B PIC 9(6).\n       01  C PIC X(2).\n";
+
+const MOVE: &str = "           MOVE A TO B.\n";
+
+/// What a call of the program came to.
+#[derive(Drop)]
+struct Answer {
+    status: u8,
+    printed: Vec<u8>,
+}
+
+/// What the call answers and prints on a shelf with that text as ONE.cbl, where the calls of these numbers
+/// fail.
+fn answer_to(
+    alloc: Global,
+    text: &str,
+    words: &[&str],
+    shelf_fault: u64,
+    sink_fault: u64,
+) -> Result<Answer, Fail> {
+    let mut shelf = MemoryShelf::new(alloc)?;
+    shelf.put("ONE.cbl", text.as_bytes())?;
+    shelf.fail_on(shelf_fault)?;
+    let mut out = MemorySink::new(alloc)?;
+    out.fail_on(sink_fault)?;
+    let mut owned = Vec::new(alloc);
+    for word in words {
+        owned.push(String::from_str(alloc, word)?)?;
+    }
+    let status = annodomini(alloc, owned.as_slice(), &mut shelf, &mut out);
+    let printed = out.bytes().to_vec(alloc)?;
+    Ok(Answer { status, printed })
+}
+
+#[test]
+fn a_move_carries_the_labels_of_the_seeded_year(rt: HostRuntime) -> Result<(), Fail> {
+    let alloc = rt.alloc();
+    let text = program(alloc, ENTRIES, MOVE)?;
+    for item in ["A", "a"] {
+        let got = answer_to(alloc, text.as_str(), &["label-one", "ONE.cbl", item], 0, 0)?;
+        assert_eq!(rt; got.status, 0);
+        assert_eq!(rt; got.printed.as_slice(), LABELS.as_bytes());
+    }
+    Ok(())
+}
+
+#[test]
+fn words_without_a_form_print_the_usage_line(rt: HostRuntime) -> Result<(), Fail> {
+    let alloc = rt.alloc();
+    let text = program(alloc, ENTRIES, MOVE)?;
+    let cases: [&[&str]; 9] = [
+        &[],
+        &["label-one"],
+        &["label-one", "ONE.cbl"],
+        &["label-one", "ONE.cbl", "A", "B"],
+        &["Label-One", "ONE.cbl", "A"],
+        &["label-one", "", "A"],
+        &["label-one", "x//ONE.cbl", "A"],
+        &["label-one", "../ONE.cbl", "A"],
+        &["run", "m.toml", "J", "991331", "10", "O"],
+    ];
+    for words in cases {
+        let got = answer_to(alloc, text.as_str(), words, 0, 0)?;
+        assert_eq!(rt; got.status, 2);
+        assert_eq!(rt; got.printed.as_slice(), USAGE.as_bytes());
+    }
+    Ok(())
+}
+
+#[test]
+fn refusals_come_in_their_order(rt: HostRuntime) -> Result<(), Fail> {
+    let alloc = rt.alloc();
+    let one = program(alloc, ENTRIES, MOVE)?;
+    let unequal = program(
+        alloc,
+        "       01  A PIC 9(4).\n       01  B PIC 9(6).\n",
+        MOVE,
+    )?;
+    let cases: [(&str, &str, &str, &str); 5] = [
+        (one.as_str(), "TWO.cbl", "Z", "refused Missing TWO.cbl\n"),
+        (
+            unequal.as_str(),
+            "ONE.cbl",
+            "Z",
+            "refused NotYetRead ONE.cbl:1:1\n",
+        ),
+        (one.as_str(), "ONE.cbl", "Z", "refused SeedUnknown Z\n"),
+        (
+            one.as_str(),
+            "ONE.cbl",
+            "A OF B",
+            "refused SeedUnknown A OF B\n",
+        ),
+        ("      X\n", "ONE.cbl", "A", "refused BadByte ONE.cbl:1:7\n"),
+    ];
+    for (text, source, item, line) in cases {
+        let got = answer_to(alloc, text, &["label-one", source, item], 0, 0)?;
+        assert_eq!(rt; got.status, 3);
+        assert_eq!(rt; got.printed.as_slice(), line.as_bytes());
+    }
+    Ok(())
+}
+
+#[test]
+fn each_call_of_the_outside_may_fail(rt: HostRuntime) -> Result<(), Fail> {
+    let alloc = rt.alloc();
+    let text = program(alloc, ENTRIES, MOVE)?;
+    let words: &[&str] = &["label-one", "ONE.cbl", "A"];
+    for call in [1, 2] {
+        let got = answer_to(alloc, text.as_str(), words, call, 0)?;
+        assert_eq!(rt; got.status, 6);
+        assert_eq!(rt; got.printed.as_slice(), b"shelf fault ONE.cbl\n".as_slice());
+    }
+    let got = answer_to(alloc, text.as_str(), words, 3, 0)?;
+    assert_eq!(rt; got.status, 0);
+    for words in [words, &[]] {
+        let got = answer_to(alloc, text.as_str(), words, 0, 1)?;
+        assert_eq!(rt; got.status, 7);
+        assert_eq!(rt; got.printed.len(), 0);
+    }
+    let got = answer_to(alloc, text.as_str(), words, 0, 2)?;
+    assert_eq!(rt; got.status, 0);
+    Ok(())
+}
+
+/// A text of that many bytes: the program, and then lines of comment.
+fn padded(alloc: Global, text: &str, length: usize) -> Result<String, Fail> {
+    let mut comment = String::from_str(alloc, "      *")?;
+    for _ in 0..92 {
+        comment.push_str("0123456789")?;
+    }
+    comment.push_str("\n")?;
+    let mut long = String::from_str(alloc, text)?;
+    for _ in 0..length / comment.len() {
+        if long.len() + comment.len() <= length {
+            long.push_str(comment.as_str())?;
+        }
+    }
+    for _ in 0..comment.len() {
+        if long.len() < length {
+            long.push_str("\n")?;
+        }
+    }
+    Ok(long)
+}
+
+#[test]
+fn a_text_past_four_million_bytes_is_too_large(rt: HostRuntime) -> Result<(), Fail> {
+    let alloc = rt.alloc();
+    let text = program(alloc, ENTRIES, MOVE)?;
+    let words: &[&str] = &["label-one", "ONE.cbl", "A"];
+    let most = padded(alloc, text.as_str(), 4_000_000)?;
+    let got = answer_to(alloc, most.as_str(), words, 0, 0)?;
+    assert_eq!(rt; got.status, 0);
+    let more = padded(alloc, text.as_str(), 4_000_001)?;
+    let got = answer_to(alloc, more.as_str(), words, 0, 0)?;
+    assert_eq!(rt; got.status, 3);
+    assert_eq!(rt;
+        got.printed.as_slice(),
+        b"refused TooLarge ONE.cbl\n".as_slice()
+    );
+    Ok(())
+}

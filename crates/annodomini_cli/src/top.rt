@@ -1,0 +1,42 @@
+ghost use Rattle.std.specs.Prelude.{◌≡◌, ℕ, List, map, string_bytes};
+ghost use Rattle.shelf.specs.Causes.{Rose};
+ghost use Rattle.answers.specs.Said.{IsSaid};
+ghost use Rattle.label_command.specs.Answer.{IsAnswered};
+ghost use Rattle.annodomini_cli.specs.Command.{HaveNoForm, IsLabelOne};
+
+use crate::command::label_one_of;
+use answers::{USAGE, say};
+use label_command::label_one;
+use shelf::{Shelf, Sink};
+use std::alloc::Global;
+
+/// What the program prints for words that have no form.
+const USAGE_LINE: &str =
+    "usage: annodomini label-one SRC ITEM, label M, plan M, convert M OUT, run M JOB YYMMDD BOUND OUT, generate N OUT, agree M JOB YYMMDD BOUND OUT, update M1 M2, age M YEARS OUT, age-new M NEW YEARS OUT, contract M NEW OUT\n";
+
+/// Does what the words ask for, prints the answer, and gives the exit status.
+pub fn annodomini<S: Shelf, K: Sink>(
+    alloc: Global,
+    words: &[String],
+    shelf: &mut S,
+    out: &mut K,
+) -> u8
+    // Words without a form, and no others, have status 2 and the usage line.
+    ensures usage { HaveNoForm (map string_bytes words.now) → IsSaid 2 USAGE_LINE.now (K.taken out.old) (K.taken out.new) result }
+    ensures no_form { result ≡ 2 → HaveNoForm (map string_bytes words.now) }
+
+    // The label lines of one program.
+    ensures label_one { (source : List ℕ) → (item : List ℕ) → IsLabelOne (map string_bytes words.now) source item → IsAnswered source item (S.told shelf.old) (K.taken out.old) (K.taken out.new) result }
+
+    // A fault of the outside is answered only where it came.
+    ensures shelf_fault { result ≡ 6 → Rose (S.faults shelf.old) (S.faults shelf.new) }
+    ensures sink_fault { result ≡ 7 → Rose (K.faults out.old) (K.faults out.new) }
+
+    // The files stay as they are.
+    ensures same { S.told shelf.new ≡ S.told shelf.old }
+{
+    match label_one_of(words) {
+        Some(found) => label_one(alloc, found.source, found.item, shelf, out),
+        None => say(USAGE_LINE, USAGE, out),
+    }
+}

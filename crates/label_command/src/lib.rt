@@ -1,0 +1,13 @@
+//! The form `label-one SRC ITEM` of the command line: the labels of one program, where the first two
+//! digits of one of its items are a year.
+#![tactic(auto)]
+
+mod command;
+mod form;
+mod print;
+mod reader;
+mod refusal;
+mod rules;
+mod year;
+
+pub use command::label_one;
