@@ -7,11 +7,13 @@ mod list;
 mod memory;
 mod picture;
 mod place;
+#[cfg(test)]
+mod tests;
 mod text;
 mod twin;
 mod word;
 
-pub use edit::{Edit, Edits};
+pub use edit::{Edit, Edits, WordPlace, join_edits};
 pub use list::{Bytes, List};
 pub use memory::Memory;
 pub use picture::{PicClass, Picture, Run};
