@@ -1,0 +1,7 @@
+pub mod Laws
+pub mod Orders
+pub mod Pieces
+pub mod Runs
+pub mod Search
+pub mod Sides
+pub mod Signs
