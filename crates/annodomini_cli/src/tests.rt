@@ -94,7 +94,9 @@ fn refusals_come_in_their_order(rt: HostRuntime) -> Result<(), Fail> {
         "       01  A PIC 9(4).\n       01  B PIC 9(6).\n",
         MOVE,
     )?;
-    let cases: [(&str, &str, &str, &str); 5] = [
+    let copied = program(alloc, ENTRIES, "           COPY B REPLACING A BY C.\n")?;
+    let unended = program(alloc, ENTRIES, "           COPY B\n")?;
+    let cases: [(&str, &str, &str, &str); 7] = [
         (one.as_str(), "TWO.cbl", "Z", "refused Missing TWO.cbl\n"),
         (
             unequal.as_str(),
@@ -110,6 +112,8 @@ fn refusals_come_in_their_order(rt: HostRuntime) -> Result<(), Fail> {
             "refused SeedUnknown A OF B\n",
         ),
         ("      X\n", "ONE.cbl", "A", "refused BadByte ONE.cbl:1:7\n"),
+        (copied.as_str(), "ONE.cbl", "A", "refused CopyMissing ONE.cbl:10:12\n"),
+        (unended.as_str(), "ONE.cbl", "A", "refused CopyShape ONE.cbl:10:12\n"),
     ];
     for (text, source, item, line) in cases {
         let got = answer_to(alloc, text, &["label-one", source, item], 0, 0)?;

@@ -54,6 +54,9 @@ kind_name (kinds.Line lines.LineLong) = codes "LineLong"
 kind_name (kinds.Line lines.OpenLiteral) = codes "OpenLiteral"
 kind_name (kinds.Line lines.BadContinuation) = codes "BadContinuation"
 kind_name (kinds.Line lines.WordLong) = codes "WordLong"
+kind_name kinds.CopyShape = codes "CopyShape"
+kind_name kinds.CopyMissing = codes "CopyMissing"
+kind_name kinds.NestedCopy = codes "NestedCopy"
 kind_name kinds.NotYetRead = codes "NotYetRead"
 
 abbrev pub line_of : List ℕ → List ℕ → Refusal → List ℕ

@@ -15,13 +15,14 @@ use crate::refusal::{Refusal, TextKind, refuse};
 use crate::rules::rules_of;
 use crate::year::{year_area, year_seeds};
 use answers::{CONFLICT, DONE, say};
+use copy_origins::{Books, CopyFault, Expanded, expand};
 use date_types::Labelling;
-use fixed_format::{LineFault, Lines, read_lines};
+use fixed_format::{LineFault, read_lines};
 use label_spread::spread;
 use shelf::{Shelf, Sink};
 use std::alloc::Global;
 use text_load::{LoadFault, load};
-use y2k_base::{Bytes, FileId, Memory, Origin};
+use y2k_base::{Bytes, FileId, List, Memory, Origin, Word};
 
 /// The label lines of a program, and whether no byte has unlike labels.
 #[derive(Debug, Drop)]
@@ -94,7 +95,7 @@ fn labels_of_text(alloc: Global, text: &Bytes, item: &str) -> Result<Labels, Ref
     ensures cause { IfErr result (HasTextCause item.now) }
 {
     match read_lines(alloc, text.items(), FileId(0)) {
-        Ok(lines) => labels_of_words(alloc, &lines, item),
+        Ok(lines) => labels_of_words(alloc, lines.words(), item),
         Err(LineFault::At { kind, at }) => Err(Refusal::At {
             kind: TextKind::Line(kind),
             at,
@@ -103,11 +104,45 @@ fn labels_of_text(alloc: Global, text: &Bytes, item: &str) -> Result<Labels, Ref
     }
 }
 
-fn labels_of_words(alloc: Global, lines: &Lines, item: &str) -> Result<Labels, Refusal>
+/// The label lines of the program that the words are. There are no copybooks.
+fn labels_of_words(alloc: Global, words: &[Word], item: &str) -> Result<Labels, Refusal>
     ensures labels { IfOk result (λ labels. (program : Program) × AreLabels program item.now labels.clean (string_bytes labels.text)) }
     ensures cause { IfErr result (HasTextCause item.now) }
 {
-    match read_program(alloc, lines.words()) {
+    let books = Books {
+        list: List::new(alloc),
+    };
+    match expand(alloc, words, &books) {
+        Ok(expanded) => labels_of_expanded(alloc, &expanded, item),
+        Err(fault) => Err(refusal_of_copy(fault)),
+    }
+}
+
+fn refusal_of_copy(fault: CopyFault) -> Refusal
+    ensures { (item : List ℕ) → HasTextCause item result }
+{
+    match fault {
+        CopyFault::CopyShape(at) => Refusal::At {
+            kind: TextKind::CopyShape,
+            at,
+        },
+        CopyFault::CopyMissing(at) => Refusal::At {
+            kind: TextKind::CopyMissing,
+            at,
+        },
+        CopyFault::NestedCopy(at) => Refusal::At {
+            kind: TextKind::NestedCopy,
+            at,
+        },
+        CopyFault::Memory => Refusal::Memory,
+    }
+}
+
+fn labels_of_expanded(alloc: Global, expanded: &Expanded, item: &str) -> Result<Labels, Refusal>
+    ensures labels { IfOk result (λ labels. (program : Program) × AreLabels program item.now labels.clean (string_bytes labels.text)) }
+    ensures cause { IfErr result (HasTextCause item.now) }
+{
+    match read_program(alloc, expanded.words.items()) {
         Ok(Some(program)) => labels_of_program(alloc, &program, item),
         Ok(None) => Err(Refusal::At {
             kind: TextKind::NotYetRead,

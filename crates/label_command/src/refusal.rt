@@ -13,6 +13,9 @@ use y2k_base::Origin;
 #[derive(Clone, Copy, Debug, PartialEq, Eq)]
 pub enum TextKind {
     Line(LineKind),
+    CopyShape,
+    CopyMissing,
+    NestedCopy,
     NotYetRead,
 }
 
@@ -43,19 +46,16 @@ impl TextKind {
             TextKind::Line(LineKind::OpenLiteral) => "OpenLiteral",
             TextKind::Line(LineKind::BadContinuation) => "BadContinuation",
             TextKind::Line(LineKind::WordLong) => "WordLong",
+            TextKind::CopyShape => "CopyShape",
+            TextKind::CopyMissing => "CopyMissing",
+            TextKind::NestedCopy => "NestedCopy",
             TextKind::NotYetRead => "NotYetRead",
         }
     }
 }
 
 /// Prints the line of a refusal, and answers its status.
-pub fn refuse<K: Sink>(
-    alloc: Global,
-    source: &str,
-    item: &str,
-    refusal: Refusal,
-    out: &mut K,
-) -> u8
+pub fn refuse<K: Sink>(alloc: Global, source: &str, item: &str, refusal: Refusal, out: &mut K) -> u8
     ensures said { IsSaid (status_of refusal) (line_of source.now item.now refusal) (K.taken out.old) (K.taken out.new) result }
     ensures sink_fault { result ≡ 7 → Rose (K.faults out.old) (K.faults out.new) }
 {
@@ -79,12 +79,7 @@ fn status_for(refusal: Refusal) -> u8
     }
 }
 
-fn line_for(
-    alloc: Global,
-    source: &str,
-    item: &str,
-    refusal: Refusal,
-) -> Result<String, AllocError>
+fn line_for(alloc: Global, source: &str, item: &str, refusal: Refusal) -> Result<String, AllocError>
     ensures { IfOk result (λ line. string_bytes line ≡ line_of source.now item.now refusal) }
 {
     match refusal {
