@@ -12,8 +12,8 @@ use std::{fs, io};
 
 /// The files under a folder of the machine. What they hold is not told, and each `Err` of a call is counted.
 /// The file that was read last and the file that was added to last stay open, so that a record costs no
-/// opening. Names are taken as given: `a` and `./a` are one file, found by what the machine says of it.
-#[derive(Drop)]
+/// opening. Names are taken as given, and two names of one file, as `a` and `./a`, are seen to be that by
+/// what the machine says of the file.
 pub struct FolderShelf<R: Files> {
     rt: R,
     folder: String,
@@ -176,6 +176,18 @@ fn none_if_missing<T>(error: io::Error) -> io::Result<Option<T>>
         Ok(None)
     } else {
         Err(error)
+    }
+}
+
+impl<R: Files + Drop> Drop for FolderShelf<R> {
+    fn drop(self) {
+        let FolderShelf {
+            rt: _rt,
+            folder: _folder,
+            faults: _,
+            reading: _reading,
+            appending: _appending,
+        } = self;
     }
 }
 

@@ -13,7 +13,7 @@ use std::collections::BTreeMap;
 use y2k_base::Memory;
 
 /// Files in memory by their names. Calls of `Shelf` can be made to fail by their numbers.
-#[derive(Debug, Drop)]
+#[derive(Debug)]
 pub struct MemoryShelf {
     alloc: Global,
     files: BTreeMap<String, Vec<u8>>,
@@ -56,6 +56,16 @@ impl MemoryShelf {
     {
         self.calls.fail_on(call)?;
         Ok(())
+    }
+}
+
+impl Drop for MemoryShelf {
+    fn drop(self) {
+        let MemoryShelf {
+            alloc: _,
+            files: _files,
+            calls: _calls,
+        } = self;
     }
 }
 

@@ -8,7 +8,7 @@ use std::alloc::Global;
 use y2k_base::Memory;
 
 /// Takes bytes in memory. Calls of `Sink` can be made to fail by their numbers.
-#[derive(Debug, Drop)]
+#[derive(Debug)]
 pub struct MemorySink {
     bytes: Vec<u8>,
     calls: Calls,
@@ -45,6 +45,15 @@ impl MemorySink {
         ensures { result.now ≡ self.now.bytes.items }
     {
         self.bytes.as_slice()
+    }
+}
+
+impl Drop for MemorySink {
+    fn drop(self) {
+        let MemorySink {
+            bytes: _bytes,
+            calls: _calls,
+        } = self;
     }
 }
 

@@ -15,7 +15,6 @@ pub(crate) struct FileIdentity {
 }
 
 /// A file that is being read. `place` is where the next byte stands that `file` gives.
-#[derive(Drop)]
 pub(crate) struct Reading<F> {
     name: String,
     identity: FileIdentity,
@@ -24,7 +23,6 @@ pub(crate) struct Reading<F> {
 }
 
 /// A file that is being added to.
-#[derive(Drop)]
 pub(crate) struct Appending<F> {
     name: String,
     identity: FileIdentity,
@@ -102,6 +100,27 @@ impl<F: Write + OpenFile + Drop> Appending<F> {
     pub(crate) fn append(&mut self, piece: &[u8]) -> io::Result<()> {
         self.file.write_all(piece)?;
         Ok(())
+    }
+}
+
+impl<F: Drop> Drop for Reading<F> {
+    fn drop(self) {
+        let Reading {
+            name: _name,
+            identity: _,
+            file: _file,
+            place: _,
+        } = self;
+    }
+}
+
+impl<F: Drop> Drop for Appending<F> {
+    fn drop(self) {
+        let Appending {
+            name: _name,
+            identity: _,
+            file: _file,
+        } = self;
     }
 }
 

@@ -1,10 +1,9 @@
-use Rattle.std.proofs.Common.{◌≡◌, ◌∙◌, ap, sym, subst, ℕ, List, [], ◌++◌, Option, Some, None, String, Vec, rules}
+use Rattle.std.proofs.Common.{◌≡◌, ◌∙◌, ap, sym, ℕ, List, ◌++◌, Some, None, String, Vec, rules}
 use Rattle.std.specs.BTreeMap.{BTreeMap}
 use Rattle.std.specs.Option.{option_map}
 use Rattle.std.specs.FinMap.{get, insert}
 use Rattle.std.specs.declared.alloc.Global.{Global}
 use Rattle.shelf.specs.Memory.{held}
-use Rattle.shelf.specs.Contents.{bytes_of}
 use Rattle.shelf.proofs.Held.{get-held, held-set, insert_same, bytes_of-here, bytes_of-missing}
 use Rattle.shelf.proofs.memory_shelf.append_to.Goals as goal
 
