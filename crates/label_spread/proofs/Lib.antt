@@ -7,3 +7,5 @@ pub mod Least
 pub mod Index
 pub mod Marks
 pub mod Whole
+pub mod Blocks
+pub mod Looks

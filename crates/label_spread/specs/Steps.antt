@@ -10,10 +10,12 @@ use Rattle.date_types.specs.declared.rule.View.{View}
 use Rattle.date_types.specs.declared.rule.View.TheVariants as views
 use Rattle.date_types.specs.declared.label.Role.TheVariants as roles
 use Rattle.date_types.specs.declared.rule.RuleForm.{RuleForm}
+use Rattle.date_types.specs.declared.rule.RuleInst.{RuleInst}
 use Rattle.date_types.specs.declared.rule.RuleForm.TheVariants as forms
 use Rattle.date_types.specs.Facts.{place_in}
 use Rattle.date_types.specs.Roles.{HasRole, Gives}
 use Rattle.date_types.specs.Forms.{HasYearDigit, Follows}
+use Rattle.label_spread.specs.Derivation.{FollowsByOne}
 
 abbrev pub HaveSameFacts : List Fact → List Fact → Type 0
 HaveSameFacts xs ys = (f : Fact) → Contains xs f ↔ Contains ys f
@@ -42,6 +44,11 @@ pub record Starts (step : List Fact → Fact → Type 0) (old new : List Fact) :
 pub record Reacts (step : List Fact → Fact → Type 0) (fact : Fact) (old new : List Fact) : Type 0 where
   pub extends : Extends step old new
   pub all : (front : List Fact) (f : Fact) → IsPartOf front old → step (front ++ fact ∷ []) f → step front f ⊎ Contains new f
+
+-- and each fact is there that follows so by the rule of that index, if there is such a rule
+pub record ReactsBy (rules : List RuleInst) (index : ℕ) (fact : Fact) (old new : List Fact) : Type 0 where
+  pub extends : Extends (FollowsByOne rules) old new
+  pub all : (rule : RuleInst) → index < length rules → slice_index_or rules index rule ≡ rule → (front : List Fact) (f : Fact) → IsPartOf front old → Follows rule.form (front ++ fact ∷ []) f → Follows rule.form front f ⊎ Contains new f
 
 -- and each fact that follows from the new ones is there
 pub record Closes (step : List Fact → Fact → Type 0) (old new : List Fact) : Type 0 where

@@ -3,12 +3,15 @@ ghost use Rattle.date_types.specs.declared.label.Fact.{Fact as AnyFact};
 ghost use Rattle.date_types.specs.Order.{IsAscending};
 ghost use Rattle.date_types.specs.Forms.{IsFit};
 ghost use Rattle.label_spread.specs.Derivation.{AreDerivable, IsLeast, IsSeedFact, FollowsByOne};
-ghost use Rattle.label_spread.specs.Steps.{Adds, Starts, Reacts, Closes};
+ghost use Rattle.label_spread.specs.Steps.{Adds, Starts, Reacts, ReactsBy, Closes};
+ghost use Rattle.label_spread.specs.Slots.{IsIndexOf};
 
 use crate::forms::{react, start};
 use crate::known::Known;
+use crate::slots::{Slot, index_rules, slots_at};
 use date_types::{Fact, Labelling, RuleInst, Seed};
 use std::alloc::Global;
+use std::collections::BTreeSet;
 use y2k_base::Memory;
 
 /// The least labelling that has the facts of the seeds and is closed under the rules.
@@ -21,7 +24,8 @@ pub fn spread(alloc: Global, seeds: &[Seed], rules: &[RuleInst]) -> Result<Label
     let mut known = Known::new(alloc);
     insert_seeds(seeds, &mut known)?;
     start_all(rules, &mut known)?;
-    close(rules, &mut known)?;
+    let slots = index_rules(alloc, rules)?;
+    close(alloc, rules, &slots, &mut known)?;
     let labelling = Labelling::new(alloc, known.into_list())?;
     Ok(labelling)
 }
@@ -56,27 +60,57 @@ fn start_all(rules: &[RuleInst], known: &mut Known) -> Result<(), Memory>
 }
 
 /// Takes the known facts one after the other and adds what follows by each, until all have been taken.
-fn close(rules: &[RuleInst], known: &mut Known) -> Result<(), Memory>
+fn close(
+    alloc: Global,
+    rules: &[RuleInst],
+    slots: &BTreeSet<Slot>,
+    known: &mut Known,
+) -> Result<(), Memory>
     requires fit { All (λ r. IsFit r.form) rules.now }
+    requires indexed { IsIndexOf rules.now slots.now.keys }
     requires started { (f : AnyFact) → FollowsByOne rules.now [] f → Contains known.old f }
     ensures { OnOk result (Closes (FollowsByOne rules.now) known.old known.new) }
 {
     let mut next = 0;
     while let Some(fact) = known.at(next) {
-        react_all(rules, fact, known)?;
+        react_all(alloc, rules, slots, fact, known)?;
         next += 1;
     }
     Ok(())
 }
 
 /// Adds what follows by the rules where this fact is one of those that it follows from.
-fn react_all(rules: &[RuleInst], fact: Fact, known: &mut Known) -> Result<(), Memory>
+fn react_all(
+    alloc: Global,
+    rules: &[RuleInst],
+    slots: &BTreeSet<Slot>,
+    fact: Fact,
+    known: &mut Known,
+) -> Result<(), Memory>
     requires fit { All (λ r. IsFit r.form) rules.now }
+    requires indexed { IsIndexOf rules.now slots.now.keys }
     requires there { Contains known.old fact }
     ensures { OnOk result (Reacts (FollowsByOne rules.now) fact known.old known.new) }
 {
-    for rule in rules {
-        react(&rule.form, fact, known)?;
+    let found = slots_at(alloc, slots, fact.place)?;
+    for i in 0..found.len() {
+        let slot = found[i];
+        react_by(rules, slot.rule, fact, known)?;
     }
     Ok(())
+}
+
+/// Adds what follows by the rule of that index.
+fn react_by(rules: &[RuleInst], index: usize, fact: Fact, known: &mut Known) -> Result<(), Memory>
+    requires fit { All (λ r. IsFit r.form) rules.now }
+    requires there { Contains known.old fact }
+    ensures { OnOk result (ReactsBy rules.now index fact known.old known.new) }
+{
+    match rules.get(index) {
+        Some(rule) => {
+            react(&rule.form, fact, known)?;
+            Ok(())
+        }
+        None => Ok(()),
+    }
 }

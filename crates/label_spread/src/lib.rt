@@ -7,6 +7,7 @@ mod forms;
 mod known;
 mod packed;
 mod roles;
+mod slots;
 mod sums;
 #[cfg(test)]
 mod tests;

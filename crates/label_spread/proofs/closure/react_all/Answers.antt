@@ -1,18 +1,18 @@
 use Rattle.std.proofs.Common.{arith}
-use Rattle.date_types.specs.declared.rule.RuleInst.{RuleInst}
-use Rattle.date_types.specs.Forms.{Follows}
+use Rattle.label_spread.specs.Derivation.{FollowsByOne}
 use Rattle.label_spread.proofs.Growth.{Extends-contains}
-use Rattle.label_spread.proofs.Loops.{ReactsOver-more, ReactsOver-all, ReactsOver-none}
+use Rattle.label_spread.proofs.Looks.{ReactsAmong-none, ReactsAmong-more, ReactsAmong-all}
 use Rattle.label_spread.proofs.closure.react_all.Goals as goal
 
-pub loop-rule-init : goal.loop-rule-init
-loop-rule-init c = (ReactsOver-none (λ (r : RuleInst). Follows r.form) c.args.rules.now c.args.fact _, c.requires.there)
+pub loop-i-init : goal.loop-i-init
+loop-i-init c = (ReactsAmong-none c.args.rules.now _ c.args.fact _, c.requires.there)
 
-pub loop-rule-preserved : goal.loop-rule-preserved
-loop-rule-preserved c = (
-  ReactsOver-more (λ (r : RuleInst). Follows r.form) c.args.rules.now c.args.fact _ _ _ c.loop-rule.rule-index c.rule-item.result (omega arith) c.rule-item.is c.loop-rule.invariant.0 c.in_ok-react.ensures,
-  Extends-contains (Follows c.rule-item.result.form) _ _ c.args.fact c.in_ok-react.ensures.extends c.loop-rule.invariant.1,
+pub loop-i-preserved : goal.loop-i-preserved
+loop-i-preserved c = (
+  ReactsAmong-more c.args.rules.now c.in_ok-found.found.items c.args.fact _ _ _ c.loop-i.i c.index-slot.result.now (omega arith) c.index-slot.ensures c.loop-i.invariant.0 c.in_ok-react_by.ensures,
+  Extends-contains (FollowsByOne c.args.rules.now) _ _ c.args.fact c.in_ok-react_by.ensures.extends c.loop-i.invariant.1,
 )
 
 pub returns : goal.returns
-returns c = ReactsOver-all (λ (r : RuleInst). Follows r.form) c.args.rules.now c.args.fact _ _ c.loop-rule.rule-index (omega arith) c.loop-rule.invariant.0
+returns c =
+    ReactsAmong-all c.args.rules.now c.in_ok-found.found.items c.args.slots.now.keys c.args.fact _ _ c.loop-i.i c.requires.fit c.requires.indexed c.in_ok-found.ensures (omega arith) c.loop-i.invariant.0
