@@ -112,8 +112,18 @@ fn refusals_come_in_their_order(rt: HostRuntime) -> Result<(), Fail> {
             "refused SeedUnknown A OF B\n",
         ),
         ("      X\n", "ONE.cbl", "A", "refused BadByte ONE.cbl:1:7\n"),
-        (copied.as_str(), "ONE.cbl", "A", "refused CopyMissing ONE.cbl:10:12\n"),
-        (unended.as_str(), "ONE.cbl", "A", "refused CopyShape ONE.cbl:10:12\n"),
+        (
+            copied.as_str(),
+            "ONE.cbl",
+            "A",
+            "refused CopyMissing ONE.cbl:10:12\n",
+        ),
+        (
+            unended.as_str(),
+            "ONE.cbl",
+            "A",
+            "refused CopyShape ONE.cbl:10:12\n",
+        ),
     ];
     for (text, source, item, line) in cases {
         let got = answer_to(alloc, text, &["label-one", source, item], 0, 0)?;
