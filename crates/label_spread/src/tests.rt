@@ -1,5 +1,8 @@
+ghost use Rattle.std.specs.Prelude.{◌≡◌, IfOk, All};
+ghost use Rattle.date_types.specs.Forms.{IsFit, IsFitView};
+
 use crate::spread;
-use date_types::{Fact, Label, Labelling, Role, Rule, RuleForm, RuleInst, Seed, View};
+use date_types::{Fact, Label, Role, Rule, RuleForm, RuleInst, Seed, View};
 use std::alloc::Global;
 use std::test::Fail;
 use y2k_base::{AreaId, BytePlace, FileId, List, Origin, Span};
@@ -10,7 +13,24 @@ fn fact(area: u32, offset: u32, label: Label) -> Fact {
     Fact { place, label }
 }
 
-fn span(area: u32, length: u32) -> Span {
+fn plain(area: u32, offset: u32) -> Fact {
+    fact(area, offset, Label::Plain)
+}
+
+/// A year in packed digits, at that byte of the second area.
+fn packed_year(digits: u8, unit: u8, byte: u8) -> Fact {
+    let label = Label::Packed { digits, unit, byte };
+    fact(1, u32::from(byte), label)
+}
+
+/// The two digits of a year at the begin of the area.
+fn year(area: u32) -> [Fact; 2] {
+    [fact(area, 0, Label::Tens), fact(area, 1, Label::Units)]
+}
+
+fn span(area: u32, length: u32) -> Span
+    ensures { result ≡ record { area = record { 0 = area }; offset = 0; length = length } }
+{
     Span {
         area: AreaId(area),
         offset: 0,
@@ -19,7 +39,9 @@ fn span(area: u32, length: u32) -> Span {
 }
 
 /// A view of an unsigned item of the area, a digit a byte.
-fn digits(alloc: Global, area: u32, count: u8) -> Result<View, Fail> {
+fn digits(alloc: Global, area: u32, count: u8) -> Result<View, Fail>
+    ensures { IfOk result IsFitView }
+{
     let mut powers = List::new(alloc);
     for i in 0..count {
         powers.push(Some(count - 1 - i))?;
@@ -28,13 +50,17 @@ fn digits(alloc: Global, area: u32, count: u8) -> Result<View, Fail> {
     Ok(View::Bytes { span, powers })
 }
 
-/// A view of a packed item of the area.
-fn packed(area: u32, digits: u8) -> View {
-    let span = span(area, u32::from(digits) / 2 + 1);
+/// A view of a packed item, which is the second area.
+fn packed(digits: u8) -> View
+    ensures { IsFitView result }
+{
+    let span = span(1, u32::from(digits) / 2 + 1);
     View::Packed { span, digits }
 }
 
-fn rule(form: RuleForm) -> RuleInst {
+fn rule(form: RuleForm) -> RuleInst
+    ensures { result.form ≡ form }
+{
     let at = Origin {
         file: FileId(0),
         line: 1,
@@ -58,74 +84,66 @@ fn seeds(alloc: Global, facts: &[Fact]) -> Result<Vec<Seed>, Fail> {
     Ok(seeds)
 }
 
-/// The labelling has just these facts.
-fn is_just(labelling: &Labelling, facts: &[Fact]) -> bool {
+/// Whether the rules give just these facts from the seeds.
+fn give(alloc: Global, rules: &[RuleInst], given: &[Fact], facts: &[Fact]) -> Result<bool, Fail>
+    requires { All (λ r. IsFit r.form) rules.now }
+{
+    let seeds = seeds(alloc, given)?;
+    let labelling = spread(alloc, seeds.as_slice(), rules)?;
     for fact in facts {
         if !labelling.has(fact.place, fact.label) {
-            return false;
+            return Ok(false);
         }
     }
-    labelling.count() == facts.len()
+    Ok(labelling.count() == facts.len())
 }
 
-/// The two digits of a year at the begin of the area.
-fn year(area: u32) -> [Fact; 2] {
-    [fact(area, 0, Label::Tens), fact(area, 1, Label::Units)]
+/// Whether the one rule gives just these facts.
+fn gives(alloc: Global, form: RuleForm, given: &[Fact], facts: &[Fact]) -> Result<bool, Fail>
+    requires { IsFit form }
+{
+    let mut rules = Vec::new(alloc);
+    rules.push(rule(form))?;
+    give(alloc, rules.as_slice(), given, facts)
 }
 
 #[test]
 fn a_move_gives_the_year_of_its_sender(rt: HostRuntime) -> Result<(), Fail> {
     let alloc = rt.alloc();
-    let seeds = seeds(alloc, &year(0))?;
-    let mut rules = Vec::new(alloc);
     let a = digits(alloc, 0, 6)?;
     let b = digits(alloc, 1, 6)?;
-    rules.push(rule(RuleForm::Digits { a, b }))?;
-    let labelling = spread(alloc, seeds.as_slice(), rules.as_slice())?;
-    assert!(rt;
-        is_just(
-            &labelling,
-            &[year(0)[0], year(0)[1], year(1)[0], year(1)[1]]
-        )
-    );
+    let facts = [year(0)[0], year(0)[1], year(1)[0], year(1)[1]];
+    assert!(rt; gives(alloc, RuleForm::Digits { a, b }, &year(0), &facts)?);
     Ok(())
 }
 
 #[test]
 fn a_packed_item_has_the_year_on_all_its_bytes(rt: HostRuntime) -> Result<(), Fail> {
     let alloc = rt.alloc();
-    let seeds = seeds(alloc, &year(0))?;
-    let mut rules = Vec::new(alloc);
     let a = digits(alloc, 0, 6)?;
-    let b = packed(1, 6);
-    rules.push(rule(RuleForm::Digits { a, b }))?;
-    let labelling = spread(alloc, seeds.as_slice(), rules.as_slice())?;
-    assert_eq!(rt; labelling.count(), 6);
-    for byte in 0..4 {
-        let label = Label::Packed {
-            digits: 6,
-            unit: 4,
-            byte,
-        };
-        assert!(rt; labelling.has(fact(1, u32::from(byte), label).place, label));
-    }
+    let b = packed(6);
+    let facts = [
+        year(0)[0],
+        year(0)[1],
+        packed_year(6, 4, 0),
+        packed_year(6, 4, 1),
+        packed_year(6, 4, 2),
+        packed_year(6, 4, 3),
+    ];
+    assert!(rt; gives(alloc, RuleForm::Digits { a, b }, &year(0), &facts)?);
     Ok(())
 }
 
-/// Moves from the first area to the second, from that to the third, and back.
-fn ring(alloc: Global, first: bool) -> Result<Vec<RuleInst>, Fail> {
+/// Moves of six bytes from the first area of each pair to the second.
+fn moves(alloc: Global, pairs: &[(u32, u32)]) -> Result<Vec<RuleInst>, Fail>
+    ensures { IfOk result (λ rules. All (λ r. IsFit r.form) rules.items) }
+{
     let mut rules = Vec::new(alloc);
-    if first {
-        rules.push(rule(RuleForm::Alike {
-            a: span(0, 6),
-            b: span(1, 6),
-        }))?;
-    }
-    for (a, b) in [(1, 2), (2, 1)] {
-        rules.push(rule(RuleForm::Alike {
-            a: span(a, 6),
-            b: span(b, 6),
-        }))?;
+    for i in 0..pairs.len() {
+        let (from, to) = pairs[i];
+        let a = span(from, 6);
+        let b = span(to, 6);
+        rules.push(rule(RuleForm::Alike { a, b }))?;
     }
     Ok(rules)
 }
@@ -133,43 +151,29 @@ fn ring(alloc: Global, first: bool) -> Result<Vec<RuleInst>, Fail> {
 #[test]
 fn labels_do_not_support_each_other(rt: HostRuntime) -> Result<(), Fail> {
     let alloc = rt.alloc();
-    let seeds = seeds(alloc, &year(0))?;
-    let with = spread(alloc, seeds.as_slice(), ring(alloc, true)?.as_slice())?;
-    assert_eq!(rt; with.count(), 6);
-    assert!(rt; with.has(year(2)[1].place, Label::Units));
-    let without = spread(alloc, seeds.as_slice(), ring(alloc, false)?.as_slice())?;
-    assert!(rt; is_just(&without, &year(0)));
+    let with = moves(alloc, &[(0, 1), (1, 2), (2, 1)])?;
+    let facts = [
+        year(0)[0],
+        year(0)[1],
+        year(1)[0],
+        year(1)[1],
+        year(2)[0],
+        year(2)[1],
+    ];
+    assert!(rt; give(alloc, with.as_slice(), &year(0), &facts)?);
+    let without = moves(alloc, &[(1, 2), (2, 1)])?;
+    assert!(rt; give(alloc, without.as_slice(), &year(0), &year(0))?);
     Ok(())
 }
 
-/// Whether the one rule gives just these facts from the seeds.
-fn gives(alloc: Global, form: RuleForm, given: &[Fact], facts: &[Fact]) -> Result<bool, Fail> {
-    let seeds = seeds(alloc, given)?;
-    let mut rules = Vec::new(alloc);
-    rules.push(rule(form))?;
-    let labelling = spread(alloc, seeds.as_slice(), rules.as_slice())?;
-    Ok(is_just(&labelling, facts))
-}
-
-fn plain(area: u32, offset: u32) -> Fact {
-    fact(area, offset, Label::Plain)
-}
-
 /// The third area is the second less the first, all of two digits.
-fn difference(alloc: Global) -> Result<RuleForm, Fail> {
+fn difference(alloc: Global) -> Result<RuleForm, Fail>
+    ensures { IfOk result IsFit }
+{
     let a = digits(alloc, 0, 2)?;
     let b = digits(alloc, 1, 2)?;
     let c = digits(alloc, 2, 2)?;
     Ok(RuleForm::Difference { a, b, c })
-}
-
-/// The digit of that power of a packed item is made plain.
-fn make_plain(digits: u8, power: u8) -> RuleForm {
-    RuleForm::GiveDigit {
-        view: packed(1, digits),
-        power,
-        role: Role::Plain,
-    }
 }
 
 #[test]
@@ -181,13 +185,23 @@ fn the_operands_of_a_sum_and_of_a_difference(rt: HostRuntime) -> Result<(), Fail
     let a = digits(alloc, 0, 2)?;
     let b = digits(alloc, 1, 2)?;
     let c = digits(alloc, 2, 2)?;
-    let sum = RuleForm::Sum { a, b, c };
     let sum_facts = [a0, a1, plain(1, 0), plain(1, 1), c0, c1];
-    assert!(rt; gives(alloc, sum, &[a0], &sum_facts)?);
+    assert!(rt; gives(alloc, RuleForm::Sum { a, b, c }, &[a0], &sum_facts)?);
     let difference_facts = [a0, a1, b0, b1, plain(2, 0), plain(2, 1)];
     assert!(rt; gives(alloc, difference(alloc)?, &[a0], &difference_facts)?);
     assert!(rt; gives(alloc, difference(alloc)?, &[], &[])?);
     Ok(())
+}
+
+/// The digit of that power of a packed item is made plain.
+fn make_plain(digits: u8, power: u8) -> RuleForm
+    ensures { IsFit result }
+{
+    RuleForm::GiveDigit {
+        view: packed(digits),
+        power,
+        role: Role::Plain,
+    }
 }
 
 #[test]
@@ -196,12 +210,7 @@ fn plain_is_given_to_a_packed_item_with_a_year_there(rt: HostRuntime) -> Result<
     let both = [plain(1, 0), plain(1, 1)];
     assert!(rt; gives(alloc, make_plain(2, 0), &[], &both)?);
     assert!(rt; gives(alloc, make_plain(3, 0), &[], &[])?);
-    let label = Label::Packed {
-        digits: 3,
-        unit: 0,
-        byte: 1,
-    };
-    let year = fact(1, 1, label);
+    let year = packed_year(3, 0, 1);
     assert!(rt; gives(alloc, make_plain(3, 1), &[year], &[year, both[0], both[1]])?);
     assert!(rt; gives(alloc, make_plain(3, 2), &[year], &[year])?);
     Ok(())
@@ -211,14 +220,11 @@ fn plain_is_given_to_a_packed_item_with_a_year_there(rt: HostRuntime) -> Result<
 fn a_year_past_the_digits_of_the_sender_is_plain(rt: HostRuntime) -> Result<(), Fail> {
     let alloc = rt.alloc();
     let [tens, units] = year(0);
+    let facts = [tens, units, plain(0, 0), plain(0, 1)];
     for (from, count) in [(4, 4), (5, 3), (6, 2)] {
-        let seeds = seeds(alloc, &[tens, units])?;
         let view = digits(alloc, 0, 6)?;
-        let mut rules = Vec::new(alloc);
-        rules.push(rule(RuleForm::Fill { view, from }))?;
-        let labelling = spread(alloc, seeds.as_slice(), rules.as_slice())?;
-        assert_eq!(rt; labelling.count(), count);
-        assert_eq!(rt; labelling.has(tens.place, Label::Plain), from < 6);
+        let fill = RuleForm::Fill { view, from };
+        assert!(rt; gives(alloc, fill, &[tens, units], &facts[..count])?);
     }
     Ok(())
 }
