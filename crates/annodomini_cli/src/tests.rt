@@ -134,23 +134,31 @@ fn refusals_come_in_their_order(rt: HostRuntime) -> Result<(), Fail> {
 }
 
 #[test]
-fn each_call_of_the_outside_may_fail(rt: HostRuntime) -> Result<(), Fail> {
+fn each_call_of_the_shelf_may_fail(rt: HostRuntime) -> Result<(), Fail> {
     let alloc = rt.alloc();
     let text = program(alloc, ENTRIES, MOVE)?;
-    let words: &[&str] = &["label-one", "ONE.cbl", "A"];
+    let words = ["label-one", "ONE.cbl", "A"];
     for call in [1, 2] {
-        let got = answer_to(alloc, text.as_str(), words, call, 0)?;
+        let got = answer_to(alloc, text.as_str(), &words, call, 0)?;
         assert_eq!(rt; got.status, 6);
         assert_eq!(rt; got.printed.as_slice(), b"shelf fault ONE.cbl\n".as_slice());
     }
-    let got = answer_to(alloc, text.as_str(), words, 3, 0)?;
+    let got = answer_to(alloc, text.as_str(), &words, 3, 0)?;
     assert_eq!(rt; got.status, 0);
-    for words in [words, &[]] {
-        let got = answer_to(alloc, text.as_str(), words, 0, 1)?;
-        assert_eq!(rt; got.status, 7);
-        assert_eq!(rt; got.printed.len(), 0);
-    }
-    let got = answer_to(alloc, text.as_str(), words, 0, 2)?;
+    Ok(())
+}
+
+#[test]
+fn each_call_of_the_sink_may_fail(rt: HostRuntime) -> Result<(), Fail> {
+    let alloc = rt.alloc();
+    let text = program(alloc, ENTRIES, MOVE)?;
+    let words = ["label-one", "ONE.cbl", "A"];
+    let got = answer_to(alloc, text.as_str(), &words, 0, 1)?;
+    assert_eq!(rt; got.status, 7);
+    assert_eq!(rt; got.printed.len(), 0);
+    let usage = answer_to(alloc, text.as_str(), &[], 0, 1)?;
+    assert_eq!(rt; usage.status, 7);
+    let got = answer_to(alloc, text.as_str(), &words, 0, 2)?;
     assert_eq!(rt; got.status, 0);
     Ok(())
 }
