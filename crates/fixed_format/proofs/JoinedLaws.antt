@@ -16,7 +16,7 @@ use Rattle.fixed_format.specs.declared.piece.Expected.{Expected}
 use Rattle.fixed_format.specs.declared.mode.Mode.{Mode}
 use Rattle.fixed_format.specs.Columns.{blanks, body, cells, line_sort, comment_goes_on}
 use Rattle.fixed_format.specs.Faults.{earlier}
-use Rattle.fixed_format.specs.Words.{pieces_of, open_literal, faults_of, earliest}
+use Rattle.fixed_format.specs.Words.{faults_of, earliest}
 use Rattle.fixed_format.specs.Modes.{step, steps, open_mark, front_mode}
 use Rattle.fixed_format.specs.Reading.{with_chars, with_cells, with_spaces, with_line, with_fault, continued, read_from, read_all, nothing_read}
 use Rattle.fixed_format.specs.Joined.{Row, rows, placed, Joined, joined_by, continued_by, joint, joint_of, words_before, words_before_joint, row_words, faults_before, faults_before_joint, row_faults, line_fault, column_of, words_in, faults_in}

@@ -2,7 +2,7 @@
 use Rattle.std.proofs.Common.{◌≡◌, ℕ, suc, ◌+◌, ◌-◌, ◌≤◌, ◌==◌, Bool, true, false, not, ◌&&◌, if◌then◌else◌, List, [], ◌∷◌, ◌++◌, length, length-drop, take, drop, Option, Some, None, option_map, refl, ap, sym, ◌∙◌, arith}
 use Rattle.std.proofs.lemmas.List.{append-nil, append_assoc, take_all}
 use Rattle.fixed_format.specs.declared.runs.Placed.{Placed}
-use Rattle.fixed_format.specs.Columns.{leading, before_trimmed, trimmed}
+use Rattle.fixed_format.specs.Columns.{before_trimmed, trimmed}
 use Rattle.fixed_format.specs.Runs.{is_digit_char, digits_length, fraction_length, number_length, closing, content}
 use Rattle.fixed_format.specs.Loops.{text_end, closing_from, content_count_from, put, content_from}
 

@@ -1,5 +1,5 @@
 -- The mode at the end of a text tells whether a literal is open there.
-use Rattle.std.proofs.Common.{◌≡◌, ℕ, zero, suc, ◌==◌, Bool, true, false, not, ◌&&◌, ◌||◌, nat_lt, if◌then◌else◌, List, [], ◌∷◌, ◌≤◌, ◌<◌, Option, Some, None, option_map, codes, refl, ap, sym, subst, ◌∙◌, arith}
+use Rattle.std.proofs.Common.{◌≡◌, ℕ, suc, ◌==◌, Bool, true, false, not, ◌&&◌, ◌||◌, if◌then◌else◌, List, [], ◌∷◌, ◌≤◌, ◌<◌, Option, Some, None, option_map, codes, refl, ap, sym, subst, ◌∙◌, arith}
 use Rattle.std.proofs.lemmas.Bool.{eqb-true, and_right}
 use Rattle.std.specs.Char.{to_ascii_uppercase}
 use Rattle.fixed_format.specs.declared.runs.Placed.{Placed}
@@ -13,9 +13,9 @@ use Rattle.fixed_format.specs.declared.mode.Spelling.{Spelling}
 use Rattle.fixed_format.specs.declared.mode.Spelling.TheVariants as p
 use Rattle.fixed_format.specs.Columns.{is_letter, is_number_byte, is_name_byte}
 use Rattle.fixed_format.specs.Runs.{first_byte, run_length, has_letter, is_run, digits_length, number_length, fraction_length, ends_picture, picture_length, closing}
-use Rattle.fixed_format.specs.Pieces.{of_sort, literal_until, is_quote, is_sign, is_mark, begins_number, begins_unsigned, mark_of_bytes, run_piece, plain_piece, first_piece, expected_after}
+use Rattle.fixed_format.specs.Pieces.{of_sort, literal_until, is_quote, is_sign, is_mark, begins_number, begins_unsigned, mark_of_bytes, run_piece, plain_piece, expected_after}
 use Rattle.fixed_format.specs.Words.{Part, is_gap, is_open, pieces_of, open_literal}
-use Rattle.fixed_format.specs.Modes.{next_if, spelled, expected_behind_name, mark_step, any_step, picture_step, is_step, front_step, name_step, step, open_mark, front_mode}
+use Rattle.fixed_format.specs.Modes.{next_if, spelled, expected_behind_name, mark_step, any_step, picture_step, is_step, front_step, step, open_mark, front_mode}
 use Rattle.fixed_format.proofs.PartLaws.{parts, parts_of}
 
 abbrev pub mode_of : Mode → List Placed → Mode

@@ -1,5 +1,5 @@
 -- What the loops of the code count, as far as they have come. `proofs/` ties each to the words of `Columns` and `Runs`.
-use Rattle.std.specs.Prelude.{ℕ, ◌+◌, ◌-◌, Bool, true, false, not, ◌&&◌, ◌==◌, if◌then◌else◌, List, [], ◌∷◌, ◌++◌, Option, Some, None}
+use Rattle.std.specs.Prelude.{ℕ, ◌+◌, ◌-◌, Bool, not, ◌&&◌, ◌==◌, if◌then◌else◌, List, [], ◌∷◌, ◌++◌, Option, Some, None}
 use Rattle.fixed_format.specs.declared.runs.Placed.{Placed}
 
 -- how many of n cells and the rest stand up to the last that is no space, where so many of the n do

@@ -1,5 +1,5 @@
 -- What the code keeps of a text that may go on: where in its last piece it ends, and whether that is an open literal.
-use Rattle.std.specs.Prelude.{ℕ, Bool, true, false, ◌==◌, ◌||◌, nat_lt, if◌then◌else◌, List, [], ◌∷◌, Option, Some, None}
+use Rattle.std.specs.Prelude.{ℕ, Bool, true, false, ◌==◌, ◌||◌, if◌then◌else◌, List, [], ◌∷◌, Option, Some, None}
 use Rattle.std.specs.Char.{to_ascii_uppercase}
 use Rattle.fixed_format.specs.declared.piece.Expected.{Expected}
 use Rattle.fixed_format.specs.declared.piece.Expected.TheVariants as e

@@ -1,5 +1,5 @@
 -- How the code goes over a joined text, character by character. `proofs/` ties this to the pieces of `Words`.
-use Rattle.std.specs.Prelude.{ℕ, suc, ◌+◌, ◌-◌, Bool, true, ◌&&◌, ◌==◌, nat_lt, if◌then◌else◌, List, [], ◌∷◌, ◌++◌, take, Option, Some, None}
+use Rattle.std.specs.Prelude.{suc, ◌-◌, Bool, true, false, ◌&&◌, ◌||◌, ◌==◌, nat_lt, if◌then◌else◌, List, [], ◌∷◌, ◌++◌, take, Option, Some, None}
 use Rattle.y2k_base.specs.declared.word.FileId.{FileId}
 use Rattle.y2k_base.specs.declared.word.Word.{Word}
 use Rattle.y2k_base.specs.declared.word.WordKind.{WordKind}
@@ -10,24 +10,43 @@ use Rattle.fixed_format.specs.declared.piece.Sort.{Sort}
 use Rattle.fixed_format.specs.declared.piece.Sort.TheVariants as s
 use Rattle.fixed_format.specs.declared.piece.Piece.{Piece}
 use Rattle.fixed_format.specs.declared.scan.Cursor.{Cursor}
+use Rattle.fixed_format.specs.Columns.{is_number_byte, is_name_byte}
+use Rattle.fixed_format.specs.Runs.{first_byte}
 use Rattle.fixed_format.specs.Pieces.{first_piece}
 use Rattle.fixed_format.specs.Faults.{earlier}
 use Rattle.fixed_format.specs.Words.{is_gap, is_literal, word_kind, word_text, bad_byte, front_fault}
 
 abbrev pub text_front : Expected → Cursor
-text_front expected = record { expected = expected; behind_gap = true; sort = s.Blank; left = 0 }
+text_front expected = record { expected = expected; behind_gap = true; sort = s.Blank; left = 0; unlettered = false }
 
-abbrev pub reached : Bool → Piece → Cursor
-reached behind_gap piece = record { expected = piece.after; behind_gap = behind_gap; sort = piece.sort; left = piece.further }
+-- a number that begins with a digit stands first
+abbrev pub begins_digits : Sort → List Placed → Bool
+begins_digits s.Number cs = is_number_byte (first_byte cs)
+begins_digits s.Blank cs = false
+begins_digits s.Name cs = false
+begins_digits s.Literal cs = false
+begins_digits s.OpenLiteral cs = false
+begins_digits s.Picture cs = false
+begins_digits s.Mark cs = false
+begins_digits s.Foreign cs = false
+
+abbrev pub reached : Bool → Bool → Piece → List Placed → Cursor
+reached behind_gap unlettered piece cs = record {
+  expected = piece.after;
+  behind_gap = behind_gap;
+  sort = piece.sort;
+  left = piece.further;
+  unlettered = unlettered || begins_digits piece.sort cs;
+}
 
 -- at the character that stands first: how many characters of its piece follow it
 abbrev pub reach : Cursor → List Placed → Cursor
 reach cursor cs =
-    if nat_lt 0 cursor.left then record { expected = cursor.expected; behind_gap = cursor.behind_gap; sort = cursor.sort; left = cursor.left - 1 }
-    else reached cursor.behind_gap (first_piece cursor.expected cursor.behind_gap cs)
+    if nat_lt 0 cursor.left then record { expected = cursor.expected; behind_gap = cursor.behind_gap; sort = cursor.sort; left = cursor.left - 1; unlettered = cursor.unlettered }
+    else reached cursor.behind_gap cursor.unlettered (first_piece cursor.expected cursor.behind_gap cs) cs
 
 abbrev pub pass : Cursor → Placed → Cursor
-pass cursor c = record { expected = cursor.expected; behind_gap = is_gap c.byte; sort = cursor.sort; left = cursor.left }
+pass cursor c = record { expected = cursor.expected; behind_gap = is_gap c.byte; sort = cursor.sort; left = cursor.left; unlettered = cursor.unlettered && is_name_byte c.byte }
 
 abbrev pub text_end : Cursor → List Placed → Cursor
 text_end cursor [] = cursor
