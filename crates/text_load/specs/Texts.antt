@@ -18,6 +18,6 @@ IsOutside _ = ⊥
 -- there is no such file, or with it the bytes would be more than four million
 abbrev pub HasLoadFault : List ℕ → ℕ → Option Files → LoadFault → Type 0
 HasLoadFault name used told Missing = IfSome told (λ files. get files name ≡ None)
-HasLoadFault name used told TooLarge = IfSome told (λ files. IfSome (get files name) (λ bytes. 4000000 < used + length bytes))
+HasLoadFault name used told TooLarge = IfSome told (λ files. (bytes : List ℕ) × (get files name ≡ Some bytes) × (4000000 < used + length bytes))
 HasLoadFault name used told Shelf = Unit {0}
 HasLoadFault name used told Memory = Unit {0}
