@@ -1,5 +1,5 @@
 -- Operands, and so expressions, are read as the grammar says.
-use Rattle.std.proofs.Common.{◌≡◌, ℕ, zero, suc, ◌+◌, Bool, true, false, ◌<◌, ◌≤◌, ◌⊎◌, inl, inr, Option, Some, None, length, refl, ap, sym, subst, ◌∙◌, arith, if◌then◌else◌}
+use Rattle.std.proofs.Common.{◌≡◌, ℕ, ◌+◌, Bool, true, false, ◌<◌, ◌⊎◌, inl, inr, Option, Some, None, length, refl, ap, sym, subst, ◌∙◌, arith, if◌then◌else◌}
 use Rattle.decimal_bytes.specs.declared.form.Scaled.{Scaled}
 use Rattle.cobol_syntax.specs.declared.place.Place.{Place}
 use Rattle.cobol_syntax.specs.declared.expr.Operand.{Operand}
@@ -9,14 +9,14 @@ use Rattle.cond_reader.specs.declared.symbol.Symbol.TheVariants as s
 use Rattle.cond_reader.specs.declared.expr.Operator.{Operator}
 use Rattle.cond_reader.specs.Text.{Text, symbol, sees, spelling}
 use Rattle.cond_reader.specs.Chars.{numeral}
-use Rattle.cond_reader.specs.Reads.{Reader, and_then}
+use Rattle.cond_reader.specs.Reads.{and_then}
 use Rattle.cond_reader.specs.Places.{place}
 use Rattle.cond_reader.specs.Exprs.{figure, number_operand, figure_operand, constant, operand_at, expr, sum_operator, product_operator}
-use Rattle.cond_reader.specs.Grammar.{Is, IsPlace}
+use Rattle.cond_reader.specs.Grammar.{IsPlace}
 use Rattle.cond_reader.specs.ExprGrammar.{IsOperand, IsExpr}
 use Rattle.cond_reader.specs.ExprGrammar.IsOperand.{place as of_place, number as of_number, literal as of_literal, figurative as of_figure}
 use Rattle.cond_reader.proofs.Best.{Agrees, Longer}
-use Rattle.cond_reader.proofs.Seen.{found, Step, then_some}
+use Rattle.cond_reader.proofs.Seen.{found, then_some}
 use Rattle.cond_reader.proofs.Words.{same-true, sees-is, sees-not, within}
 use Rattle.cond_reader.proofs.PlaceLaws.{PlaceGoes, place-agrees}
 use Rattle.cond_reader.proofs.ExprLaws.{GoesOn, expr-agrees}

@@ -1,5 +1,5 @@
 -- The grammar of expressions over operands.
-use Rattle.std.specs.Prelude.{◌≡◌, ℕ, zero, suc, ◌+◌, ◌<◌, ◌⊎◌, Option, Some}
+use Rattle.std.specs.Prelude.{◌≡◌, ℕ, zero, suc, ◌+◌, ◌<◌, Option, Some}
 use Rattle.cobol_syntax.specs.declared.expr.Operand.{Operand}
 use Rattle.cobol_syntax.specs.declared.expr.Expr.{Expr}
 use Rattle.cobol_syntax.specs.declared.expr.Expr.TheVariants as e

@@ -1,5 +1,5 @@
 -- How operands and expressions are read.
-use Rattle.std.specs.Prelude.{ℕ, zero, suc, ◌+◌, Bool, true, false, if◌then◌else◌, length, Option, Some, None, option_map}
+use Rattle.std.specs.Prelude.{ℕ, zero, suc, ◌+◌, if◌then◌else◌, length, Option, Some, None}
 use Rattle.decimal_bytes.specs.declared.form.Scaled.{Scaled}
 use Rattle.cobol_syntax.specs.declared.expr.Operand.{Operand}
 use Rattle.cobol_syntax.specs.declared.expr.Operand.TheVariants as operand

@@ -1,21 +1,21 @@
-//! The numbers that words stand for.
-
 ghost use Rattle.std.specs.Prelude.{◌≡◌, true, false};
 ghost use Rattle.cond_reader.specs.Chars as spec;
 
 use decimal_bytes::Scaled;
 
+/// The most digits that a number has.
 const DIGITS_OF_A_NUMBER: u8 = 18;
 /// A number with fewer than 18 digits is below this.
 const LARGE: u64 = 100_000_000_000_000_000;
 
-/// A number of digits alone, if it fits.
+/// A number of digits alone, at most 4,294,967,295.
 pub fn whole(text: &[u8]) -> Option<u32>
     ensures { result ≡ spec.whole text.now }
 {
     if text.is_empty() { None } else { digits(text) }
 }
 
+/// The value of digits; none where another byte stands among them, or where it is too large.
 fn digits(mut text: &[u8]) -> Option<u32>
     ensures { result ≡ spec.digits 0 text.entry.now }
 {
@@ -66,6 +66,7 @@ fn unsigned(mut text: &[u8]) -> Option<(u64, u8, u8)>
     }
 }
 
+/// The value of a number without its sign, with the sign that was read.
 #[tactic(auto, unfolding(crate::specs::Chars::signed))]
 fn signed(is_negative: bool, text: &[u8]) -> Option<(Scaled, u8)>
     ensures { result ≡ spec.signed is_negative text.now }
@@ -76,8 +77,9 @@ fn signed(is_negative: bool, text: &[u8]) -> Option<(Scaled, u8)>
     Some((Scaled { number, scale }, digits))
 }
 
+/// The value of a number as it is written, an optional sign and at most 18 digits with at most one point, and how
+/// many digits it has.
 #[tactic(auto, unfolding(crate::specs::Chars::numeral))]
-/// The value of a number as it is written, and how many digits it has.
 pub fn numeral(text: &[u8]) -> Option<(Scaled, u8)>
     ensures { result ≡ spec.numeral text.now }
 {

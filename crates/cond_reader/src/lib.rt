@@ -1,4 +1,5 @@
-//! Reads conditions and expressions, from left to right over the words of a program.
+//! Reads operands, identifiers and arithmetic expressions of ISO 1989:1985 from the words of a program, as the
+//! longest of the readings that the grammar has.
 #![tactic(auto)]
 
 mod chars;

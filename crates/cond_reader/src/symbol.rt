@@ -19,6 +19,7 @@ pub enum Symbol {
     Number,
     Literal,
     Zero,
+    /// ZEROS or ZEROES.
     Zeros,
     Space,
     HighValue,
@@ -28,6 +29,7 @@ pub enum Symbol {
     Or,
     Not,
     Is,
+    /// OF or IN.
     Of,
     To,
     Than,
@@ -37,7 +39,9 @@ pub enum Symbol {
     EqualSign,
     GreaterSign,
     LessSign,
+    /// The mark `<=`.
     AtMost,
+    /// The mark `>=`.
     AtLeast,
     Numeric,
     Alphabetic,
@@ -87,6 +91,7 @@ pub const KEYWORDS: [(&[u8], Symbol); 31] = [
     (b"ERROR", Symbol::Nest),
 ];
 
+/// The marks of conditions, and the period.
 pub const MARKS: [(&[u8], Symbol); 13] = [
     (b".", Symbol::Period),
     (b"(", Symbol::Open),
@@ -117,8 +122,8 @@ fn mark(text: &[u8]) -> Option<Symbol>
     value_of(&MARKS, text)
 }
 
+/// A word that is reserved and no word of conditions is no name there.
 #[tactic(auto, unfolding(crate::specs::Symbols::symbol_of_name))]
-/// A name that is reserved and no word of conditions is no name there.
 fn symbol_of_name(text: &[u8]) -> Symbol
     ensures { result ≡ spec.symbol_of_name text.now }
 {
@@ -131,6 +136,7 @@ fn symbol_of_name(text: &[u8]) -> Symbol
     }
 }
 
+/// What a word is to the grammar.
 #[tactic(auto, unfolding(crate::specs::Symbols::symbol_of))]
 pub fn symbol_of(word: &Word) -> Symbol
     ensures { result ≡ spec.symbol_of word.now }
