@@ -8,6 +8,8 @@ mod place;
 mod read;
 mod symbol;
 mod table;
+#[cfg(test)]
+mod tests;
 mod text;
 
 pub use read::read_expr;
