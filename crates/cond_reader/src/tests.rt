@@ -105,23 +105,7 @@ fn show_operand(alloc: Global, operand: &Operand, out: &mut Bytes) -> Result<(),
     }
 }
 
-/// The sides of an operator in parentheses.
-#[cycle(show)]
-fn show_sides(
-    alloc: Global,
-    left: &Expr,
-    operator: u8,
-    right: &Expr,
-    out: &mut Bytes,
-) -> Result<(), Memory> {
-    out.push(b'(')?;
-    show(alloc, left, out)?;
-    out.push(operator)?;
-    show(alloc, right, out)?;
-    out.push(b')')
-}
-
-#[cycle(show)]
+/// An expression, with what has an operator in parentheses.
 fn show(alloc: Global, expr: &Expr, out: &mut Bytes) -> Result<(), Memory> {
     match expr {
         Expr::One(operand) => show_operand(alloc, operand, out),
@@ -129,10 +113,34 @@ fn show(alloc: Global, expr: &Expr, out: &mut Bytes) -> Result<(), Memory> {
             out.push(b'-')?;
             show(alloc, inner.get(), out)
         }
-        Expr::Add(left, right) => show_sides(alloc, left.get(), b'+', right.get(), out),
-        Expr::Sub(left, right) => show_sides(alloc, left.get(), b'-', right.get(), out),
-        Expr::Mul(left, right) => show_sides(alloc, left.get(), b'*', right.get(), out),
-        Expr::Div(left, right) => show_sides(alloc, left.get(), b'/', right.get(), out),
+        Expr::Add(left, right) => {
+            out.push(b'(')?;
+            show(alloc, left.get(), out)?;
+            out.push(b'+')?;
+            show(alloc, right.get(), out)?;
+            out.push(b')')
+        }
+        Expr::Sub(left, right) => {
+            out.push(b'(')?;
+            show(alloc, left.get(), out)?;
+            out.push(b'-')?;
+            show(alloc, right.get(), out)?;
+            out.push(b')')
+        }
+        Expr::Mul(left, right) => {
+            out.push(b'(')?;
+            show(alloc, left.get(), out)?;
+            out.push(b'*')?;
+            show(alloc, right.get(), out)?;
+            out.push(b')')
+        }
+        Expr::Div(left, right) => {
+            out.push(b'(')?;
+            show(alloc, left.get(), out)?;
+            out.push(b'/')?;
+            show(alloc, right.get(), out)?;
+            out.push(b')')
+        }
     }
 }
 
