@@ -1,0 +1,11 @@
+pub mod Chars
+pub mod ExprGrammar
+pub mod Exprs
+pub mod Grammar
+pub mod Longest
+pub mod Places
+pub mod Reads
+pub mod Symbols
+pub mod Table
+pub mod Text
+pub mod View

@@ -1,0 +1,16 @@
+//! Reads operands, identifiers and arithmetic expressions of ISO 1989:1985 from the words of a program, as the
+//! longest of the readings that the grammar has.
+#![tactic(auto)]
+
+mod chars;
+mod expr;
+mod place;
+mod read;
+mod symbol;
+mod table;
+#[cfg(test)]
+mod tests;
+mod text;
+
+pub use read::read_expr;
+pub use text::{CondNames, Found};
