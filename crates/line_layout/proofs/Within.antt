@@ -10,8 +10,9 @@ use Rattle.y2k_base.specs.declared.word.Word.{Word}
 use Rattle.y2k_base.specs.declared.word.WordKind.{WordKind}
 use Rattle.y2k_base.specs.declared.word.WordKind.TheVariants as kind
 use Rattle.line_layout.specs.declared.page.Page.{Page}
-use Rattle.line_layout.specs.Spelling.{spelled, doubled, is_name, is_number, is_literal, is_own_name, is_tight_after, begins_area_a, opens_comment}
+use Rattle.line_layout.specs.Spelling.{spelled, doubled, is_name, is_number, is_literal, is_own_name, is_tight_after, begins_area_a}
 use Rattle.line_layout.specs.Layout.{put, opened, room, parts_mark, is_half, next_column, fresh_column, filled_one, filled, with_word, with_literal, can_begin, gap, placed, all_placed, first_page, first_blanks, lines_of, laid}
+use Rattle.line_layout.proofs.Joined.{blanks-short}
 use Rattle.line_layout.specs.Width.{IsWhole, IsWithin, IsShort, KeepsWidth}
 
 pub data Shape (column : ℕ) : List (List ℕ) → ℕ → Type 0 where
@@ -57,14 +58,10 @@ one-of true = omega arith
 one-of false = omega arith
 
 next-small : (rest : List ℕ) → next_column rest ≤ 13
-next-small rest =
-    elim (nat_le (length rest) 60) as (λ (t : Bool). (if t then 12 else (if is_half false 59 rest then 13 else 12)) ≤ 13)
-    [ true ↦ omega arith | false ↦ one-of (is_half false 59 rest) ]
+next-small rest = one-of (is_half false 59 rest)
 
 fresh-small : (text : List ℕ) → fresh_column text ≤ 13
-fresh-small text =
-    elim (nat_le (length text) 61) as (λ (t : Bool). (if t then 12 else (if parts_mark 60 text then 13 else 12)) ≤ 13)
-    [ true ↦ omega arith | false ↦ one-of (parts_mark 60 text) ]
+fresh-small text = one-of (parts_mark 60 text)
 
 below : (m n : ℕ) → nat_lt m n ≡ true → m < n
 below m n h = grind (arith, nat_tests)
@@ -169,11 +166,6 @@ all-fits : (column : ℕ) (is_first is_tight : Bool) (ws : List Word) (page : Pa
 all-fits column is_first is_tight [] page fits short = fits
 all-fits column is_first is_tight (w ∷ ws) page fits short =
     all-fits column false (is_tight_after w) ws (placed is_first is_tight w ws page) (any-fits column is_first is_tight w ws page fits short.0) short.1
-
-blanks-short : (column : ℕ) (words : List Word) → first_blanks column words ≤ 12 - column
-blanks-short column [] = omega arith
-blanks-short column (w ∷ ws) =
-    elim (opens_comment w) as (λ (t : Bool). (if t then 12 - column else 0) ≤ 12 - column) [ true ↦ omega arith | false ↦ omega arith ]
 
 first-fits : (column : ℕ) (words : List Word) → Fits column (first_page column words)
 first-fits column words =

@@ -9,22 +9,37 @@ use crate::spelling::{
     begins_area_a, first_full, is_literal, is_tight_after, is_tight_before, opens_comment, quoted,
 };
 use std::alloc::Global;
+use std::convert::From;
 use y2k_base::{Bytes, List, Memory, Origin, Word};
 
-/// The first line from its column on, and each later one from its indicator in column 7 on.
+/// Lines of fixed reference format: the first from the column on at which it was asked for, and each
+/// later one from its indicator in column 7 on. None has a line end. Where each word that is no
+/// literal has 1 to 61 characters, none goes past column 72.
 #[derive(Debug, Drop)]
 pub struct LaidLines {
     pub lines: List<Bytes>,
 }
 
-/// Why words are not laid.
+/// Why words aren't laid.
 #[derive(Clone, Copy, Debug, PartialEq, Eq)]
 pub enum LayFault {
-    /// The literal there has more than 160 characters.
+    /// The literal there is the first with more than 160 characters (ISO 1989:1985 has at most 160).
     LiteralFull(Origin),
+    /// There was no memory left.
     Memory,
 }
 
+impl From<Memory> for LayFault {
+    ghost use Rattle.line_layout.specs.declared.layout.LayFault.TheVariants as fault;
+
+    ghost from_gives = { λ _ e. e ≡ fault.Memory };
+
+    fn from(_: Memory) -> LayFault {
+        LayFault::Memory
+    }
+}
+
+/// The blanks between a word and the one before it.
 fn gap(is_tight: bool, word: &Word) -> usize
     ensures { result ≡ spec.gap is_tight word.now }
 {
@@ -42,6 +57,7 @@ fn literal_placed(alloc: Global, gap: usize, content: &[u8], page: Page) -> Resu
     with_literal(alloc, gap, text.items(), page)
 }
 
+/// Puts a word; `rest` are the words after it.
 fn placed(
     alloc: Global,
     is_first: bool,
@@ -61,6 +77,7 @@ fn placed(
     }
 }
 
+/// The blanks before the first word: those of the five comment words never begin before column 12.
 fn first_blanks(column: u32, words: &[Word]) -> usize
     ensures { result ≡ spec.first_blanks column words.now }
 {
@@ -120,7 +137,33 @@ fn laid(alloc: Global, words: &[Word], column: u32) -> Result<List<Bytes>, Memor
     lines_of(page)
 }
 
-/// The words on lines, the first from the column on.
+/// Lays words on lines, the first from `column` on. Columns count from 1.
+///
+/// A word stands one blank after the word before; no blank stands before `.`, `)` and `:`, and none
+/// after `(` and `:`. A word that would go past column 72 begins a new line at column 12. Before the
+/// words WORKING-STORAGE and PROCEDURE, and before 01 with a name that begins with `Y2K-`, a new line
+/// begins at column 8, unless the word is the first. A first word that begins a comment (AUTHOR,
+/// INSTALLATION, DATE-WRITTEN, DATE-COMPILED or SECURITY) stands at column 12 or later.
+///
+/// A literal stands between quotation marks, with each quotation mark in it written twice. One that
+/// doesn't fit fills its line up to column 72 and goes on after a mark at column 12 of a line with
+/// `-` in column 7. Where the first half of a doubled mark would fall in column 72, the literal
+/// begins on a new line, or the mark of the line that goes on stands at column 13. Continuation is that
+/// of ISO 1989:1985; where lines begin and end is this project's choice.
+///
+/// The lines, joined as continuation lines are, hold the words in order, each as it is written: so
+/// far the contract. A reader of fixed format cuts them into the same words, up to their origins, where
+///
+/// - each word has the form that the reader gives words of its kind;
+/// - each word after PIC or PICTURE and an optional IS is a PICTURE word;
+/// - no other word is one, but that the first of the words may be one, or the second after a first
+///   IS: the lines are then read as those after PIC are;
+/// - no PICTURE word ends in a point, comma or semicolon;
+/// - a PICTURE word that is `IS`, or that begins with `IS` and a character other than a letter, digit
+///   or hyphen, stands right after a name `IS`;
+/// - no `)` or `:` follows a PICTURE word;
+/// - no `)`, `:` or `.` follows a period that follows a PICTURE word;
+/// - no number right after `:` begins with a sign or a point.
 pub fn lay(alloc: Global, words: &[Word], column: u32) -> Result<LaidLines, LayFault>
     requires low { 8 ≤ column }
     requires high { column ≤ 72 }
@@ -131,9 +174,9 @@ pub fn lay(alloc: Global, words: &[Word], column: u32) -> Result<LaidLines, LayF
 {
     match first_full(words) {
         Some(at) => Err(LayFault::LiteralFull(at)),
-        None => match laid(alloc, words, column) {
-            Err(_) => Err(LayFault::Memory),
-            Ok(lines) => Ok(LaidLines { lines }),
-        },
+        None => {
+            let lines = laid(alloc, words, column)?;
+            Ok(LaidLines { lines })
+        }
     }
 }

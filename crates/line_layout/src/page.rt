@@ -12,12 +12,14 @@ pub struct Page {
     pub limit: usize,
 }
 
+/// The cells that are left up to column 72.
 pub fn room(page: &Page) -> usize
     ensures { result ≡ spec.room page.now }
 {
     page.limit.saturating_sub(page.line.items().len())
 }
 
+/// Adds so many blanks.
 fn extend_blanks(count: usize, line: &mut Bytes) -> Result<(), Memory>
     ensures { OnOk result (line.new ≡ line.old ++ replicate count 32) }
 {
@@ -27,6 +29,7 @@ fn extend_blanks(count: usize, line: &mut Bytes) -> Result<(), Memory>
     Ok(())
 }
 
+/// Puts bytes at the end of the last line.
 pub fn put(bytes: &[u8], page: &mut Page) -> Result<(), Memory>
     ensures { OnOk result (page.new ≡ spec.put bytes.now page.old) }
 {
@@ -48,6 +51,7 @@ pub fn put_blanks(count: usize, page: &mut Page) -> Result<(), Memory>
     Ok(())
 }
 
+/// The start of a line: its indicator for column 7, and blanks up to the column.
 fn margin(alloc: Global, indicator: u8, column: usize) -> Result<Bytes, Memory>
     ensures { IfOk result (λ line. line ≡ indicator ∷ replicate (column - 8) 32) }
 {
@@ -57,6 +61,7 @@ fn margin(alloc: Global, indicator: u8, column: usize) -> Result<Bytes, Memory>
     Ok(line)
 }
 
+/// Begins a new line.
 pub fn open(alloc: Global, indicator: u8, column: usize, page: Page) -> Result<Page, Memory>
     ensures { IfOk result (λ new. new ≡ spec.opened indicator column page) }
 {
@@ -74,8 +79,7 @@ fn begins_twice(bytes: &[u8]) -> bool
     ensures { result ≡ spec.begins_twice bytes.now }
 {
     match bytes {
-        [] => false,
-        [_] => false,
+        [] | [_] => false,
         [a, b, ..] => *a == b'"' && *b == b'"',
     }
 }
@@ -86,6 +90,7 @@ fn is_inner(inside: bool, byte: u8) -> bool
     byte == b'"' && !inside
 }
 
+/// Whether the byte at this place is the first of two quotation marks that stand for one.
 fn is_half(place: usize, bytes: &[u8]) -> bool
     ensures { result ≡ spec.is_half false place bytes.now }
 {
@@ -103,6 +108,7 @@ fn is_half(place: usize, bytes: &[u8]) -> bool
     false
 }
 
+/// Whether a line that ends with the byte at this place of a quoted literal would part a doubled mark.
 pub fn parts_mark(place: usize, bytes: &[u8]) -> bool
     ensures { result ≡ spec.parts_mark place bytes.now }
 {
@@ -118,30 +124,21 @@ pub fn parts_mark(place: usize, bytes: &[u8]) -> bool
     }
 }
 
+/// The column at which a literal begins on a new line.
 fn fresh_column(text: &[u8]) -> usize
     ensures { result ≡ spec.fresh_column text.now }
 {
-    if text.len() <= 61 {
-        12
-    } else if parts_mark(60, text) {
-        13
-    } else {
-        12
-    }
+    if parts_mark(60, text) { 13 } else { 12 }
 }
 
+/// The column of the mark after which the rest of a literal goes on.
 fn next_column(rest: &[u8]) -> usize
     ensures { result ≡ spec.next_column rest.now }
 {
-    if rest.len() <= 60 {
-        12
-    } else if is_half(59, rest) {
-        13
-    } else {
-        12
-    }
+    if is_half(59, rest) { 13 } else { 12 }
 }
 
+/// Begins a continuation line, up to its mark.
 fn go_on(alloc: Global, rest: &[u8], page: Page) -> Result<Page, Memory>
     ensures { IfOk result (λ new. new ≡ spec.put (34 ∷ []) (spec.opened 45 (spec.next_column rest.now) page)) }
 {
@@ -165,6 +162,7 @@ fn fill_one(alloc: Global, first: u8, rest: &[u8], page: Page) -> Result<Page, M
     }
 }
 
+/// Puts a quoted literal, each line of it up to column 72.
 fn fill(alloc: Global, text: &[u8], page: Page) -> Result<Page, Memory>
     ensures { IfOk result (λ new. new ≡ spec.filled text.now page) }
 {
@@ -194,6 +192,7 @@ pub fn on_new_line(alloc: Global, column: usize, text: &[u8], page: Page) -> Res
     Ok(next)
 }
 
+/// Puts a word that is no literal after its blanks, or on a new line at column 12.
 pub fn with_word(alloc: Global, gap: usize, text: &[u8], page: Page) -> Result<Page, Memory>
     ensures { IfOk result (λ new. new ≡ spec.with_word gap text.now page) }
 {
@@ -219,6 +218,7 @@ fn fill_below(alloc: Global, text: &[u8], page: Page) -> Result<Page, Memory>
     fill(alloc, text, next)
 }
 
+/// Whether a literal that doesn't fit may begin after its blanks.
 fn can_begin(gap: usize, text: &[u8], page: &Page) -> bool
     ensures { result ≡ spec.can_begin gap text.now page.now }
 {
@@ -230,6 +230,7 @@ fn can_begin(gap: usize, text: &[u8], page: &Page) -> bool
     }
 }
 
+/// Puts a quoted literal after its blanks where it fits, or its parts up to column 72 of each line.
 pub fn with_literal(alloc: Global, gap: usize, text: &[u8], page: Page) -> Result<Page, Memory>
     ensures { IfOk result (λ new. new ≡ spec.with_literal gap text.now page) }
 {

@@ -34,123 +34,104 @@ fn word(alloc: Global, spelled: &[u8]) -> Result<Word, Memory> {
 }
 
 /// The laid lines, each with `|` after it.
-fn shown(alloc: Global, text: &[u8], column: u32) -> Result<Vec<u8>, LayFault> {
+fn shown(alloc: Global, text: &[u8], column: u32) -> Result<Bytes, LayFault> {
     let mut words = List::new(alloc);
     for spelled in text.split(|b| *b == b' ') {
-        match word(alloc, spelled) {
-            Err(_) => return Err(LayFault::Memory),
-            Ok(w) => {
-                if words.push(w).is_err() {
-                    return Err(LayFault::Memory);
-                }
-            }
-        }
+        words.push(word(alloc, spelled)?)?;
     }
-    let mut out = Vec::new(alloc);
+    let mut shown = List::new(alloc);
     if column < 8 || column > 72 {
-        return Ok(out);
+        return Ok(shown);
     }
     let laid = lay(alloc, words.items(), column)?;
     for line in laid.lines.items() {
-        for b in line.items() {
-            if out.push(*b).is_err() {
-                return Err(LayFault::Memory);
-            }
-        }
-        if out.push(b'|').is_err() {
-            return Err(LayFault::Memory);
-        }
+        shown.append(line.items())?;
+        shown.push(b'|')?;
     }
-    Ok(out)
-}
-
-fn gives(alloc: Global, text: &[u8], column: u32, wanted: &[u8]) -> bool {
-    match shown(alloc, text, column) {
-        Ok(bytes) => bytes.as_slice() == wanted,
-        Err(_) => false,
-    }
+    Ok(shown)
 }
 
 #[test]
-fn lays(rt: HostRuntime) -> Result<(), Fail> {
+fn words_stand_one_blank_apart_and_lines_begin_at_columns_8_and_12(
+    rt: HostRuntime,
+) -> Result<(), Fail> {
     let alloc = rt.alloc();
-    assert!(rt; gives(alloc, b"AB", 72, b"|     AB|"));
-    assert!(rt; gives(alloc, b"AB", 71, b"AB|"));
-    assert!(rt;
-        gives(
-            alloc,
-            b"MOVE A ( 1 : 2 ) TO B .",
+    for (text, column, wanted) in [
+        (b"AB".as_slice(), 72, b"|     AB|".as_slice()),
+        (b"AB", 71, b"AB|"),
+        (b"A BC", 70, b"A|     BC|"),
+        (b"MOVE A ( 1 : 2 ) TO B .", 12, b"MOVE A (1:2) TO B.|"),
+        (b"A . PROCEDURE DIVISION .", 12, b"A.| PROCEDURE DIVISION.|"),
+        (
+            b"A . WORKING-STORAGE SECTION .",
             12,
-            b"MOVE A (1:2) TO B.|"
-        )
-    );
-    assert!(rt;
-        gives(
-            alloc,
-            b"A . PROCEDURE DIVISION .",
-            12,
-            b"A.| PROCEDURE DIVISION.|"
-        )
-    );
-    assert!(rt; gives(alloc, b"PROCEDURE", 12, b"PROCEDURE|"));
-    assert!(rt; gives(alloc, b"A . 01 Y2K-A . 01 B .", 12, b"A.| 01 Y2K-A. 01 B.|"));
-    assert!(rt; gives(alloc, b"AUTHOR A", 8, b"    AUTHOR A|"));
-    assert!(rt; gives(alloc, b"AUTHOR A", 20, b"AUTHOR A|"));
-    assert!(rt;
-        gives(
-            alloc,
-            b"\"ABCDEFGHIJKLMNOPQRST",
-            60,
-            b"\"ABCDEFGHIJKL|-    \"MNOPQRST\"|"
-        )
-    );
-    assert!(rt; gives(alloc, b"\"A\"B", 70, b"|     \"A\"\"B\"|"));
-    assert!(rt; gives(alloc, b"\"AB", 70, b"\"AB|-    \"\"|"));
-    assert!(rt;
-        gives(
-            alloc,
-            b"\"58XXXXXXXXXXXXXXXXXXXXXXXXXXXXXXXXXXXXXXXXXXXXXXXXXXXXXXXXX\"",
-            72,
-            b"\"|-     \"58XXXXXXXXXXXXXXXXXXXXXXXXXXXXXXXXXXXXXXXXXXXXXXXXXXXXXXXXX|-    \"\"\"\"|"
-        )
-    );
-    assert!(rt;
-        gives(
-            alloc,
-            b"AAAAAAAAAAAAAAAAAAAAAAAAAAAAAA BBBBBBBBBBBBBBBBBBBBBBBBBBBBB \"XXXXXXXXXXXXXXXXXXXXXXXXXXXXXXXXXXXXXXXXXXXXXXXXXXXXXXXXXXX\"",
-            12,
-            b"AAAAAAAAAAAAAAAAAAAAAAAAAAAAAA BBBBBBBBBBBBBBBBBBBBBBBBBBBBB|      \"XXXXXXXXXXXXXXXXXXXXXXXXXXXXXXXXXXXXXXXXXXXXXXXXXXXXXXXXXXX|-    \"\"\"\"|"
-        )
-    );
+            b"A.| WORKING-STORAGE SECTION.|",
+        ),
+        (b"PROCEDURE", 12, b"PROCEDURE|"),
+        (b"A . 01 Y2K-A . 01 B .", 12, b"A.| 01 Y2K-A. 01 B.|"),
+        (b"AUTHOR A", 8, b"    AUTHOR A|"),
+        (b"AUTHOR A", 20, b"AUTHOR A|"),
+    ] {
+        let lines = shown(alloc, text, column)?;
+        assert_eq!(rt; lines.items(), wanted);
+    }
     Ok(())
 }
 
-/// A literal of so many characters.
-fn long_literal(alloc: Global, size: u32) -> Result<List<Word>, Memory> {
-    let mut words = List::new(alloc);
-    let mut content = List::new(alloc);
-    for _ in 0..size {
-        content.push(b'"')?;
+#[test]
+fn literals_go_on_after_a_mark_and_no_doubled_mark_is_parted(rt: HostRuntime) -> Result<(), Fail> {
+    let alloc = rt.alloc();
+    for (text, column, wanted) in [
+        (
+            b"\"ABCDEFGHIJKLMNOPQRST".as_slice(),
+            60,
+            b"\"ABCDEFGHIJKL|-    \"MNOPQRST\"|".as_slice(),
+        ),
+        (b"\"A\"B", 70, b"|     \"A\"\"B\"|"),
+        (b"\"AB", 70, b"\"AB|-    \"\"|"),
+        (
+            b"\"58XXXXXXXXXXXXXXXXXXXXXXXXXXXXXXXXXXXXXXXXXXXXXXXXXXXXXXXXX\"",
+            72,
+            b"\"|-     \"58XXXXXXXXXXXXXXXXXXXXXXXXXXXXXXXXXXXXXXXXXXXXXXXXXXXXXXXXX|-    \"\"\"\"|",
+        ),
+        (
+            b"AAAAAAAAAAAAAAAAAAAAAAAAAAAAAA BBBBBBBBBBBBBBBBBBBBBBBBBBBBB \"XXXXXXXXXXXXXXXXXXXXXXXXXXXXXXXXXXXXXXXXXXXXXXXXXXXXXXXXXXX\"",
+            12,
+            b"AAAAAAAAAAAAAAAAAAAAAAAAAAAAAA BBBBBBBBBBBBBBBBBBBBBBBBBBBBB|      \"XXXXXXXXXXXXXXXXXXXXXXXXXXXXXXXXXXXXXXXXXXXXXXXXXXXXXXXXXXX|-    \"\"\"\"|",
+        ),
+    ] {
+        let lines = shown(alloc, text, column)?;
+        assert_eq!(rt; lines.items(), wanted);
     }
+    Ok(())
+}
+
+/// One literal of so many quotation marks.
+fn marks(alloc: Global, count: u32) -> Result<List<Word>, Memory> {
     let mut literal = word(alloc, b"\"")?;
-    literal.text = content;
+    for _ in 0..count {
+        literal.text.push(b'"')?;
+    }
+    let mut words = List::new(alloc);
     words.push(literal)?;
     Ok(words)
 }
 
 #[test]
-fn refuses_long_literals(rt: HostRuntime) -> Result<(), Fail> {
+fn a_literal_of_161_characters_is_named(rt: HostRuntime) -> Result<(), Fail> {
     let alloc = rt.alloc();
-    let full = long_literal(alloc, 161)?;
+    let at = Origin {
+        file: FileId(0),
+        line: 1,
+        column: 8,
+    };
+    let full = marks(alloc, 161)?;
     match lay(alloc, full.items(), 12) {
-        Err(LayFault::LiteralFull(at)) => assert_eq!(rt; at.column, 8),
-        Err(LayFault::Memory) => assert!(rt; false),
+        Err(fault) => assert_eq!(rt; fault, LayFault::LiteralFull(at)),
         Ok(_) => assert!(rt; false),
     }
-    let fits = long_literal(alloc, 160)?;
-    match lay(alloc, fits.items(), 12) {
-        Err(_) => assert!(rt; false),
-        Ok(laid) => assert_eq!(rt; laid.lines.items().len(), 6),
-    }
+    let fits = marks(alloc, 160)?;
+    let laid = lay(alloc, fits.items(), 12)?;
+    assert_eq!(rt; laid.lines.len(), 6);
     Ok(())
 }
