@@ -8,6 +8,8 @@ mod expr;
 mod place;
 mod program;
 mod statement;
+#[cfg(test)]
+mod tests;
 
 pub use cond::{CondForm, Condition, Rel};
 pub use expr::{Expr, Operand};
