@@ -1,4 +1,6 @@
 pub mod Chars
+pub mod CondGrammar
+pub mod Conds
 pub mod ExprGrammar
 pub mod Exprs
 pub mod Grammar

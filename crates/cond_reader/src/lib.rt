@@ -3,6 +3,7 @@
 #![tactic(auto)]
 
 mod chars;
+mod cond;
 mod expr;
 mod place;
 mod read;
@@ -13,4 +14,5 @@ mod tests;
 mod text;
 
 pub use read::read_expr;
-pub use text::{CondNames, Found};
+pub use symbol::{Symbol, same_symbol};
+pub use text::{CondNames, Found, Reader};
