@@ -4,25 +4,28 @@ ghost use Rattle.shelf.specs.Contents.{Files};
 ghost use Rattle.text_load.specs.Texts.{HasLoadFault};
 ghost use Rattle.date_types.specs.Order.{IsAscending};
 ghost use Rattle.label_spread.specs.Derivation.{AreDerivable};
-ghost use Rattle.label_command.specs.Answer.{AreLabels, AreLabelsFrom, HasCause, HasTextCause, IsAnswered};
+ghost use Rattle.label_command.specs.Answer.{AreLabels, AreLabelsFrom, AreLabelsOf, HasCause, HasTextCause, HasTreeCause, IsAnswered, IsLabelled};
+ghost use Rattle.label_command.specs.Texts.{IsTree, IsTreeOfWords, IsTreeOfExpanded, IsRefusedText, IsRefusedWords, IsRefusedExpansion, line_kind, copy_refusal};
 ghost use Rattle.label_command.specs.Rules.{rule_for};
 ghost use Rattle.label_command.specs.Years.{year_seeds_of};
 
-use crate::form::{MoveEntry, Program};
+use crate::form::{MoveEntry, Simple};
 use crate::print::label_lines;
-use crate::reader::read_program;
-use crate::refusal::{Refusal, TextKind, refuse};
+use crate::refusal::{Refusal, refuse};
 use crate::rules::rules_of;
+use crate::simple::{Unread, simple};
 use crate::year::{year_area, year_seeds};
 use answers::{CONFLICT, DONE, say};
+use cobol_syntax::Program;
 use copy_origins::{Books, CopyFault, Expanded, expand};
 use date_types::Labelling;
-use fixed_format::{LineFault, read_lines};
+use fixed_format::{LineFault, LineKind, read_lines};
 use label_spread::spread;
+use program_reader::{ReadFault, RefusedKind, read_program};
 use shelf::{Shelf, Sink};
 use std::alloc::Global;
 use text_load::{LoadFault, load};
-use y2k_base::{Bytes, FileId, List, Memory, Origin, Word};
+use y2k_base::{Bytes, FileId, List, Memory, Word};
 
 /// The label lines of a program, and whether no byte has unlike labels.
 #[derive(Debug, Drop)]
@@ -65,7 +68,7 @@ fn labels_of<S: Shelf>(
     item: &str,
     shelf: &mut S,
 ) -> Result<Labels, Refusal>
-    ensures labels { IfOk result (λ labels. (program : Program) × AreLabels program item.now labels.clean (string_bytes labels.text)) }
+    ensures labels { IfOk result (λ labels. AreLabelsOf source.now item.now (S.told shelf.old) labels.clean (string_bytes labels.text)) }
     ensures cause { IfErr result (HasCause source.now item.now (S.told shelf.old)) }
     ensures fault { IsErrOf result Refusal.Shelf → Rose (S.faults shelf.old) (S.faults shelf.new) }
     ensures later { S.faults shelf.old ≤ S.faults shelf.new }
@@ -91,77 +94,105 @@ fn refusal_of(fault: LoadFault) -> Refusal
 
 /// The label lines of the program that the text is.
 fn labels_of_text(alloc: Global, text: &Bytes, item: &str) -> Result<Labels, Refusal>
-    ensures labels { IfOk result (λ labels. (program : Program) × AreLabels program item.now labels.clean (string_bytes labels.text)) }
-    ensures cause { IfErr result (HasTextCause item.now) }
+    ensures labels { IfOk result (λ labels. IsLabelled text.now item.now labels.clean (string_bytes labels.text)) }
+    ensures cause { IfErr result (HasTextCause text.now item.now) }
 {
-    match read_lines(alloc, text.items(), FileId(0)) {
-        Ok(lines) => labels_of_words(alloc, lines.words(), item),
+    match tree_of(alloc, text.items()) {
+        Ok(tree) => labels_of_tree(alloc, &tree, item),
+        Err(refusal) => Err(refusal),
+    }
+}
+
+/// The tree of the program that the text is.
+fn tree_of(alloc: Global, text: &[u8]) -> Result<Program, Refusal>
+    ensures tree { IfOk result (IsTree text.now) }
+    ensures cause { IfErr result (IsRefusedText text.now) }
+{
+    match read_lines(alloc, text, FileId(0)) {
+        Ok(lines) => tree_of_words(alloc, lines.words()),
         Err(LineFault::At { kind, at }) => Err(Refusal::At {
-            kind: TextKind::Line(kind),
+            kind: kind_of_line(kind),
             at,
         }),
         Err(LineFault::Memory) => Err(Refusal::Memory),
     }
 }
 
-/// The label lines of the program that the words are. There are no copybooks.
-fn labels_of_words(alloc: Global, words: &[Word], item: &str) -> Result<Labels, Refusal>
-    ensures labels { IfOk result (λ labels. (program : Program) × AreLabels program item.now labels.clean (string_bytes labels.text)) }
-    ensures cause { IfErr result (HasTextCause item.now) }
+fn kind_of_line(kind: LineKind) -> RefusedKind
+    ensures { result ≡ line_kind kind }
+{
+    match kind {
+        LineKind::BadByte => RefusedKind::BadByte,
+        LineKind::LineLong => RefusedKind::LineLong,
+        LineKind::OpenLiteral => RefusedKind::OpenLiteral,
+        LineKind::BadContinuation => RefusedKind::BadContinuation,
+        LineKind::WordLong => RefusedKind::WordLong,
+    }
+}
+
+/// The tree of the program that the words are. There are no copybooks.
+fn tree_of_words(alloc: Global, words: &[Word]) -> Result<Program, Refusal>
+    ensures tree { IfOk result (IsTreeOfWords words.now) }
+    ensures cause { IfErr result (IsRefusedWords words.now) }
 {
     let books = Books {
         list: List::new(alloc),
     };
     match expand(alloc, words, &books) {
-        Ok(expanded) => labels_of_expanded(alloc, &expanded, item),
+        Ok(expanded) => tree_of_expanded(alloc, &expanded),
         Err(fault) => Err(refusal_of_copy(fault)),
     }
 }
 
 fn refusal_of_copy(fault: CopyFault) -> Refusal
-    ensures { (item : List ℕ) → HasTextCause item result }
+    ensures { result ≡ copy_refusal fault }
 {
     match fault {
         CopyFault::CopyShape(at) => Refusal::At {
-            kind: TextKind::CopyShape,
+            kind: RefusedKind::CopyShape,
             at,
         },
         CopyFault::CopyMissing(at) => Refusal::At {
-            kind: TextKind::CopyMissing,
+            kind: RefusedKind::CopyMissing,
             at,
         },
         CopyFault::NestedCopy(at) => Refusal::At {
-            kind: TextKind::NestedCopy,
+            kind: RefusedKind::NestedCopy,
             at,
         },
         CopyFault::Memory => Refusal::Memory,
     }
 }
 
-fn labels_of_expanded(alloc: Global, expanded: &Expanded, item: &str) -> Result<Labels, Refusal>
-    ensures labels { IfOk result (λ labels. (program : Program) × AreLabels program item.now labels.clean (string_bytes labels.text)) }
-    ensures cause { IfErr result (HasTextCause item.now) }
+fn tree_of_expanded(alloc: Global, expanded: &Expanded) -> Result<Program, Refusal>
+    ensures tree { IfOk result (IsTreeOfExpanded expanded.now.words) }
+    ensures cause { IfErr result (IsRefusedExpansion expanded.now.words) }
 {
-    match read_program(alloc, expanded.words.items()) {
-        Ok(Some(program)) => labels_of_program(alloc, &program, item),
-        Ok(None) => Err(Refusal::At {
-            kind: TextKind::NotYetRead,
-            at: FIRST,
+    match read_program(alloc, expanded, 0, FileId(0)) {
+        Ok(tree) => Ok(tree),
+        Err(ReadFault::Refused(refused)) => Err(Refusal::At {
+            kind: refused.kind,
+            at: refused.at,
         }),
-        Err(_) => Err(Refusal::Memory),
+        Err(ReadFault::Memory) => Err(Refusal::Memory),
     }
 }
 
-/// The first place of the text.
-const FIRST: Origin = Origin {
-    file: FileId(0),
-    line: 1,
-    column: 1,
-};
+/// The label lines of a program.
+fn labels_of_tree(alloc: Global, tree: &Program, item: &str) -> Result<Labels, Refusal>
+    ensures labels { IfOk result (λ labels. (simple : Simple) × AreLabels simple item.now labels.clean (string_bytes labels.text)) }
+    ensures cause { IfErr result (HasTreeCause item.now) }
+{
+    match simple(alloc, tree) {
+        Ok(simple) => labels_of_simple(alloc, &simple, item),
+        Err(Unread::At(at)) => Err(Refusal::NotYetRead { at }),
+        Err(Unread::Memory) => Err(Refusal::Memory),
+    }
+}
 
-fn labels_of_program(alloc: Global, program: &Program, item: &str) -> Result<Labels, Refusal>
+fn labels_of_simple(alloc: Global, program: &Simple, item: &str) -> Result<Labels, Refusal>
     ensures labels { IfOk result (λ labels. AreLabels program.now item.now labels.clean (string_bytes labels.text)) }
-    ensures cause { IfErr result (HasTextCause item.now) }
+    ensures cause { IfErr result (HasTreeCause item.now) }
 {
     match year_area(program.items.items(), item.as_bytes()) {
         Some(area) => match labels_from(alloc, program, area) {
@@ -173,7 +204,7 @@ fn labels_of_program(alloc: Global, program: &Program, item: &str) -> Result<Lab
 }
 
 /// The label lines where the first two bytes of the area are a year.
-fn labels_from(alloc: Global, program: &Program, area: u32) -> Result<Labels, Memory>
+fn labels_from(alloc: Global, program: &Simple, area: u32) -> Result<Labels, Memory>
     ensures { IfOk result (λ labels. AreLabelsFrom program.now area labels.clean (string_bytes labels.text)) }
 {
     let labelling = labelling_of(alloc, area, program.moves.items())?;

@@ -27,9 +27,9 @@ pub struct MoveEntry {
     pub at: Origin,
 }
 
-/// The items and the moves of a program. Items have the numbers of their areas.
+/// The items and the moves of a program that has nothing else with a label. Items have the numbers of their areas.
 #[derive(Debug, Drop)]
-pub struct Program {
+pub struct Simple {
     pub items: List<ItemEntry>,
     pub moves: List<MoveEntry>,
     ghost few: { length items < 2 ^ 32 },

@@ -5,9 +5,9 @@
 mod command;
 mod form;
 mod print;
-mod reader;
 mod refusal;
 mod rules;
+mod simple;
 mod year;
 
 pub use command::label_one;

@@ -4,20 +4,10 @@ ghost use Rattle.answers.specs.Said.{IsSaid};
 ghost use Rattle.label_command.specs.Answer.{kind_name, line_of, status_of};
 
 use answers::{NO_MEMORY, REFUSED, SHELF_FAULT, refused_name, refused_place, say, shelf_fault};
-use fixed_format::LineKind;
+use program_reader::RefusedKind;
 use shelf::Sink;
 use std::alloc::{AllocError, Global};
 use y2k_base::Origin;
-
-/// Why a text is refused at a place.
-#[derive(Clone, Copy, Debug, PartialEq, Eq)]
-pub enum TextKind {
-    Line(LineKind),
-    CopyShape,
-    CopyMissing,
-    NestedCopy,
-    NotYetRead,
-}
 
 /// Why there are no label lines.
 #[derive(Clone, Copy, Debug, PartialEq, Eq)]
@@ -27,31 +17,15 @@ pub enum Refusal {
     /// The text is too long.
     TooLarge,
     /// The text has no reading.
-    At { kind: TextKind, at: Origin },
+    At { kind: RefusedKind, at: Origin },
+    /// The entry or statement there has a rule that isn't built yet.
+    NotYetRead { at: Origin },
     /// The item is none whose first two digits may be a year.
     SeedUnknown,
     /// The shelf failed.
     Shelf,
     /// There was no memory left.
     Memory,
-}
-
-impl TextKind {
-    fn name(self) -> &'static str
-        ensures { result.now ≡ kind_name self }
-    {
-        match self {
-            TextKind::Line(LineKind::BadByte) => "BadByte",
-            TextKind::Line(LineKind::LineLong) => "LineLong",
-            TextKind::Line(LineKind::OpenLiteral) => "OpenLiteral",
-            TextKind::Line(LineKind::BadContinuation) => "BadContinuation",
-            TextKind::Line(LineKind::WordLong) => "WordLong",
-            TextKind::CopyShape => "CopyShape",
-            TextKind::CopyMissing => "CopyMissing",
-            TextKind::NestedCopy => "NestedCopy",
-            TextKind::NotYetRead => "NotYetRead",
-        }
-    }
 }
 
 /// Prints the line of a refusal, and answers its status.
@@ -66,6 +40,32 @@ pub fn refuse<K: Sink>(alloc: Global, source: &str, item: &str, refusal: Refusal
     }
 }
 
+/// The word that a kind prints as.
+fn name_of(kind: RefusedKind) -> &'static str
+    ensures { result.now ≡ kind_name kind }
+{
+    match kind {
+        RefusedKind::BadByte => "BadByte",
+        RefusedKind::LineLong => "LineLong",
+        RefusedKind::OpenLiteral => "OpenLiteral",
+        RefusedKind::BadContinuation => "BadContinuation",
+        RefusedKind::WordLong => "WordLong",
+        RefusedKind::CopyShape => "CopyShape",
+        RefusedKind::CopyMissing => "CopyMissing",
+        RefusedKind::NestedCopy => "NestedCopy",
+        RefusedKind::UnitShape => "UnitShape",
+        RefusedKind::NestDeep => "NestDeep",
+        RefusedKind::PictureFull => "PictureFull",
+        RefusedKind::PictureShape => "PictureShape",
+        RefusedKind::TooManyDigits => "TooManyDigits",
+        RefusedKind::LayoutShape => "LayoutShape",
+        RefusedKind::AreaFull => "AreaFull",
+        RefusedKind::NameTwice => "NameTwice",
+        RefusedKind::NameUnknown => "NameUnknown",
+        RefusedKind::UseShape => "UseShape",
+    }
+}
+
 fn status_for(refusal: Refusal) -> u8
     ensures { result ≡ status_of refusal }
 {
@@ -73,6 +73,7 @@ fn status_for(refusal: Refusal) -> u8
         Refusal::Missing => REFUSED,
         Refusal::TooLarge => REFUSED,
         Refusal::At { .. } => REFUSED,
+        Refusal::NotYetRead { .. } => REFUSED,
         Refusal::SeedUnknown => REFUSED,
         Refusal::Shelf => SHELF_FAULT,
         Refusal::Memory => NO_MEMORY,
@@ -85,7 +86,12 @@ fn line_for(alloc: Global, source: &str, item: &str, refusal: Refusal) -> Result
     match refusal {
         Refusal::Missing => refused_name(alloc, "Missing", source),
         Refusal::TooLarge => refused_name(alloc, "TooLarge", source),
-        Refusal::At { kind, at } => refused_place(alloc, kind.name(), source, at.line, at.column),
+        Refusal::At { kind, at } => {
+            refused_place(alloc, name_of(kind), source, at.line, at.column)
+        }
+        Refusal::NotYetRead { at } => {
+            refused_place(alloc, "NotYetRead", source, at.line, at.column)
+        }
         Refusal::SeedUnknown => refused_name(alloc, "SeedUnknown", item),
         Refusal::Shelf => shelf_fault(alloc, source),
         Refusal::Memory => Ok(String::new(alloc)),
