@@ -13,6 +13,8 @@ mod table;
 mod tests;
 mod text;
 
+pub use chars::whole;
 pub use read::read_expr;
 pub use symbol::{Symbol, same_symbol};
+pub use table::value_of;
 pub use text::{CondNames, Found, Reader};

@@ -1,0 +1,9 @@
+pub mod CondEntries
+pub mod Drafts
+pub mod Entries
+pub mod Files
+pub mod Readings
+pub mod Selects
+pub mod Terms
+pub mod View
+pub mod Views

@@ -1,0 +1,14 @@
+//! Reads whole programs of COBOL (ISO 1989:1985) from their expanded words, unit by unit: the words up to and with a
+//! period.
+#![tactic(auto)]
+
+mod cond_entry;
+mod entry;
+mod fault;
+mod file;
+mod reading;
+mod select;
+mod term;
+mod text;
+
+pub use fault::{ReadFault, Refused, RefusedKind};
