@@ -2,8 +2,10 @@ pub mod CondEntries
 pub mod Drafts
 pub mod Entries
 pub mod Files
+pub mod Programs
 pub mod Readings
 pub mod Selects
 pub mod Terms
+pub mod UnitFaults
 pub mod View
 pub mod Views

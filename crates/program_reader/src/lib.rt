@@ -3,6 +3,8 @@
 #![tactic(auto)]
 
 mod cond_entry;
+mod data;
+mod division;
 mod entry;
 mod fault;
 mod file;
@@ -10,5 +12,7 @@ mod reading;
 mod select;
 mod term;
 mod text;
+mod unit;
+mod unit_fault;
 
 pub use fault::{ReadFault, Refused, RefusedKind};

@@ -7,7 +7,7 @@ use crate::fault::{Refused, RefusedKind};
 use crate::reading::Reading;
 use crate::text::{Outcome, Units};
 use cobol_syntax::{Entry, FileEntry, Select};
-use cond_reader::UnitFault;
+use crate::unit_fault::{UnitFault, unit_fault};
 use y2k_base::{Bytes, Memory, Origin, Twin};
 
 /// The position of the next unit, or why the first unit that can't be read has no reading.
@@ -36,13 +36,15 @@ impl<'a> Units<'a> {
     fn last_place(&self) -> Origin
         ensures { result ≡ spec.last_place (view_of self.now) }
     {
-        match self.parts.words {
-            [] => Origin {
+        let count = self.parts.words.len();
+        if count == 0 {
+            Origin {
                 file: self.file,
                 line: 1,
                 column: 1,
-            },
-            [.., last] => last.origin,
+            }
+        } else {
+            self.parts.words[count - 1].origin
         }
     }
 
@@ -52,7 +54,7 @@ impl<'a> Units<'a> {
         ensures { IfOk result (λ r. r ≡ spec.fault (view_of self.now) at) }
     {
         if (at as usize) < self.parts.words.len() {
-            refused_of(self.parts.unit_fault(at))
+            refused_of(unit_fault(&self.parts, at))
         } else {
             Ok(Refused {
                 kind: RefusedKind::UnitShape,

@@ -1,0 +1,4 @@
+pub mod Reading
+pub mod Sentences
+pub mod Source
+pub mod View
