@@ -1,5 +1,5 @@
 -- How data description entries are read.
-use Rattle.std.specs.Prelude.{ℕ, ◌+◌, Bool, true, false, ◌&&◌, ◌||◌, ◌==◌, nat_lt, if◌then◌else◌, List, [], Option, Some, None, is_some}
+use Rattle.std.specs.Prelude.{ℕ, ◌+◌, Bool, true, false, ◌&&◌, ◌||◌, ◌==◌, nat_lt, if◌then◌else◌, List, [], Option, Some, None, is_some, slice_get}
 use Rattle.decimal_bytes.specs.declared.form.SignPlace.{SignPlace}
 use Rattle.decimal_bytes.specs.declared.form.SignPlace.TheVariants as sign
 use Rattle.cobol_syntax.specs.declared.program.Entry.{Entry}
@@ -13,6 +13,8 @@ use Rattle.program_reader.specs.declared.term.Term.TheVariants as k
 use Rattle.program_reader.specs.declared.entry.Draft.{Draft}
 use Rattle.program_reader.specs.declared.entry.EntryPart.{EntryPart}
 use Rattle.program_reader.specs.declared.entry.EntryPart.TheVariants as p
+use Rattle.program_reader.specs.declared.reading.Reading.{Reading}
+use Rattle.program_reader.specs.declared.reading.Reading.TheVariants as reading
 use Rattle.program_reader.specs.Views.{View, has, past, past_is, ended, count, closed_by}
 use Rattle.program_reader.specs.Drafts.{plain_entry}
 use Rattle.program_reader.specs.CondEntries.{cond_entry}
@@ -49,10 +51,20 @@ abbrev pub given_or_none : {A : Type 0} → ℕ → Option (A × ℕ) → Option
 given_or_none i None = (None, i)
 given_or_none i (Some r) = (Some r.0, r.1)
 
+abbrev pub has_reading : Option Reading → Bool
+has_reading None = false
+has_reading (Some reading.Plain) = false
+has_reading (Some (reading.Picture picture)) = true
+has_reading (Some (reading.Refused refused)) = true
+
 module _ (v : View) where
+  -- the string of a PICTURE clause
+  unfoldable pub is_picture : ℕ → Bool
+  is_picture i = has_reading (slice_get v.readings i)
+
   -- after PICTURE
   unfoldable pub picture_part : Reader EntryPart
-  picture_part i = let j = past_is v i in if has v k.PictureText j then Some (p.Picture j, j + 1) else None
+  picture_part i = let j = past_is v i in if is_picture j then Some (p.Picture j, j + 1) else None
 
   -- after OCCURS
   unfoldable pub occurs_part : Reader EntryPart

@@ -40,6 +40,10 @@ module _ (v : View) where
   unfoldable pub begins_sentence : ℕ → Bool
   begins_sentence i = not (sees v.text s.Name i) && not (sees v.text s.End i)
 
+  -- the paragraphs, where the words end after them
+  unfoldable pub closed : Chapters → ℕ → Result (List Paragraph) Refused
+  closed cs i = if sees v.text s.End i then Ok cs.paragraphs else Err (fault v i)
+
   module _ (t : Source) where
     abbrev pub with_sentence : Body → ℕ → Option (Sentence × Spot) → Outcome Body
     with_sentence b i None = Err (fault v i)
@@ -69,9 +73,5 @@ module _ (v : View) where
         if sees v.text s.End i then Err (fault v i)
         else so (unnamed (record { paragraphs = []; number = 0 }) i) more_paragraphs
 
-    abbrev pub paragraphs_of : Result (Chapters × ℕ) Refused → Result (List Paragraph) Refused
-    paragraphs_of (Err refused) = Err refused
-    paragraphs_of (Ok p) = Ok p.0.paragraphs
-
     unfoldable pub procedure : ℕ → Result (List Paragraph) Refused
-    procedure i = so_at (required v (headers v k.Procedure k.Division i) i) (λ j. paragraphs_of (chapters j))
+    procedure i = so_at (required v (headers v k.Procedure k.Division i) i) (λ j. so (chapters j) closed)

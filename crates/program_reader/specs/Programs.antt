@@ -64,7 +64,7 @@ module _ (v : View) where
   -- of the last word, or line 1, column 1
   unfoldable pub last_place : Origin
   last_place =
-      let start = record { file = v.file; line = 1; column = 1 } in
+      let start : Origin = record { file = v.file; line = 1; column = 1 } in
       let count = length v.text.words in
       if count == 0 then start else place_or start (slice_get v.text.words (count - 1))
 

@@ -96,7 +96,7 @@ abbrev pub term_by : List ℕ → WordKind → Term
 term_by text kind.Name = term_of_name text
 term_by text kind.Number = k.Unlisted
 term_by text kind.Literal = k.Unlisted
-term_by text kind.Picture = k.PictureText
+term_by text kind.Picture = k.Unlisted
 term_by text kind.Mark = k.Unlisted
 
 unfoldable pub term_of : Word → Term

@@ -7,8 +7,7 @@ use Rattle.cobol_syntax.specs.declared.program.FileEntry.{FileEntry}
 use Rattle.cobol_syntax.specs.declared.program.Paragraph.{Paragraph}
 use Rattle.cobol_syntax.specs.declared.program.Program.{Program}
 use Rattle.cobol_syntax.specs.declared.program.Select.{Select}
-use Rattle.cond_reader.specs.Text.{Text}
-use Rattle.cond_reader.specs.Kinds.{kind_of}
+use Rattle.cond_reader.specs.Kinds.{text_with}
 use Rattle.proc_reader.specs.Keywords.{keyword_of}
 use Rattle.proc_reader.specs.Source.{Source}
 use Rattle.program_reader.specs.declared.data.Data.{Data}
@@ -48,11 +47,7 @@ program_of words id selects d paragraphs =
     record { id = id; words = words; selects = selects; files = d.files; storage = d.storage; paragraphs = paragraphs }
 
 abbrev pub program_after : List Word → Opening → List Paragraph → Program
-program_after words o paragraphs = program_of words o.id o.selects o.data paragraphs
-
--- words in a program with these condition-names
-abbrev pub text_with : List Word → List (List ℕ) → Text
-text_with words names = record { words = words; kinds = map (kind_of names) words }
+program_after words o paragraphs = program_of words o.id o.selects o.division paragraphs
 
 abbrev pub source_with : List Word → List (List ℕ) → ℕ → Source
 source_with words names program = record { text = text_with words names; keywords = map keyword_of words; program = program }
@@ -63,7 +58,7 @@ view_with words readings file = record { text = text_with words []; terms = map 
 
 module _ (v : View) where
   unfoldable pub opening_data : List ℕ → List Select → ℕ → Outcome Opening
-  opening_data id selects i = so (data_division v i) (λ d j. Ok (record { id = id; selects = selects; data = d }, j))
+  opening_data id selects i = so (data_division v i) (λ d j. Ok (record { id = id; selects = selects; division = d }, j))
 
   unfoldable pub opening_rest : List ℕ → ℕ → Outcome Opening
   opening_rest id i = so (environment v i) (λ selects j. opening_data id selects j)
@@ -79,7 +74,7 @@ module _ (v : View) where
   after_opening o (Ok paragraphs) = Ok (program_after v.text.words o paragraphs)
 
   unfoldable pub whole : ℕ → Result Program Refused
-  whole program = so opening (λ o j. after_opening o (procedure_with (cond_names o.data) program j))
+  whole program = so opening (λ o j. after_opening o (procedure_with (cond_names o.division) program j))
 
 -- what reading the words answers
 pub record IsAnswer (words : List Word) (program : ℕ) (file : FileId) (answer : Result Program Refused) : Type 0 where

@@ -1,12 +1,13 @@
 ghost use Rattle.std.specs.Prelude.{◌≡◌, IfOk};
 ghost use Rattle.program_reader.specs.Programs as spec;
 ghost use Rattle.program_reader.specs.View.{view_of};
+ghost use Rattle.program_reader.specs.Whole as whole;
 
 use crate::term::Term;
 use crate::text::{Outcome, Units};
-use cobol_syntax::{Entry, FileEntry};
+use cobol_syntax::{Entry, FileEntry, Paragraph, Program, Select};
 use cond_reader::Symbol;
-use y2k_base::List;
+use y2k_base::{Bytes, List, Word};
 
 /// What the data division says: the FDs with their records, and the entries of working storage.
 pub struct Data {
@@ -20,6 +21,23 @@ impl Drop for Data {
             files: _files,
             storage: _storage,
         } = self;
+    }
+}
+
+impl Data {
+    /// The program with this data division.
+    pub fn program(self, words: List<Word>, id: Bytes, selects: List<Select>, paragraphs: List<Paragraph>) -> Program
+        ensures { result ≡ whole.program_of words id selects self paragraphs }
+    {
+        let Data { files, storage } = self;
+        Program {
+            id,
+            words,
+            selects,
+            files,
+            storage,
+            paragraphs,
+        }
     }
 }
 

@@ -1,7 +1,9 @@
-ghost use Rattle.std.specs.Prelude.{◌≡◌, IfOk};
+ghost use Rattle.std.specs.Prelude.{◌≡◌, ◌<◌, true, length, IfOk};
+ghost use Rattle.program_reader.specs.Drafts as drafts;
 ghost use Rattle.program_reader.specs.Entries as spec;
 ghost use Rattle.program_reader.specs.View.{view_of};
 
+use crate::reading::Reading;
 use crate::term::Term;
 use crate::text::Units;
 use cobol_syntax::{Entry, Operand, Usage};
@@ -101,7 +103,7 @@ fn sign_at(is_leading: bool, is_separate: bool) -> SignPlace
 
 /// An entry with no clauses.
 pub fn plain_entry(alloc: Global, level: u8, name: Option<Bytes>, redefines: Option<Bytes>, at: u32) -> Draft
-    ensures { result ≡ spec.plain_entry level name redefines at }
+    ensures { result ≡ drafts.plain_entry level name redefines at }
 {
     let entry = Entry {
         level,
@@ -136,13 +138,29 @@ pub fn level_of(number: u32) -> Option<u8>
 }
 
 impl<'a> Units<'a> {
+    /// Whether the word at a position is the string of a PICTURE clause.
+    #[tactic(auto, unfolding(crate::specs::Entries::is_picture))]
+    fn is_picture(&self, at: u32) -> bool
+        ensures value { result ≡ spec.is_picture (view_of self.now) at }
+        ensures within { result ≡ true → at < length self.now.readings.now }
+    {
+        match self.readings.get(at as usize) {
+            None => false,
+            Some(reading) => match reading {
+                Reading::Plain => false,
+                Reading::Picture(_) => true,
+                Reading::Refused(_) => true,
+            },
+        }
+    }
+
     /// PICTURE, after that word.
     #[tactic(auto, unfolding(crate::specs::Entries::picture_part))]
     fn picture_part(&self, at: u32) -> Option<(EntryPart, u32)>
         ensures { result ≡ spec.picture_part (view_of self.now) at }
     {
         let start = self.past_is(at);
-        if self.has(Term::PictureText, start) {
+        if self.is_picture(start) {
             Some((EntryPart::Picture(start), start + 1))
         } else {
             None

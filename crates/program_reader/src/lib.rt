@@ -8,6 +8,8 @@ mod division;
 mod entry;
 mod fault;
 mod file;
+mod procedure;
+mod read;
 mod reading;
 mod select;
 mod term;
@@ -16,3 +18,4 @@ mod unit;
 mod unit_fault;
 
 pub use fault::{ReadFault, Refused, RefusedKind};
+pub use read::read_program;

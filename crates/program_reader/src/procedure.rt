@@ -216,6 +216,23 @@ impl<'a> Units<'a> {
         }
     }
 
+    /// The paragraphs, where the words end after them.
+    #[tactic(auto, unfolding(crate::specs::Procedures::closed))]
+    fn closed(&self, chapters: Chapters, end: u32) -> Result<Result<List<Paragraph>, Refused>, Memory>
+        ensures { IfOk result (λ r. r ≡ spec.closed (view_of self.now) chapters end) }
+    {
+        let Chapters {
+            paragraphs,
+            number: _,
+        } = chapters;
+        if self.parts.sees(Symbol::End, end) {
+            Ok(Ok(paragraphs))
+        } else {
+            let refused = self.fault(end)?;
+            Ok(Err(refused))
+        }
+    }
+
     /// The procedure division, with which a program ends.
     #[tactic(auto, unfolding(crate::specs::Procedures::procedure))]
     pub fn procedure(&self, sentences: &Sentences, at: u32) -> Result<Result<List<Paragraph>, Refused>, Memory>
@@ -225,13 +242,7 @@ impl<'a> Units<'a> {
             Err(refused) => Ok(Err(refused)),
             Ok(next) => match self.chapters(sentences, next)? {
                 Err(refused) => Ok(Err(refused)),
-                Ok((chapters, _end)) => {
-                    let Chapters {
-                        paragraphs,
-                        number: _,
-                    } = chapters;
-                    Ok(Ok(paragraphs))
-                }
+                Ok((chapters, end)) => self.closed(chapters, end),
             },
         }
     }

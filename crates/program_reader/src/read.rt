@@ -18,7 +18,7 @@ use y2k_base::{Bytes, FileId, List, Memory, Twin, Word};
 pub struct Opening {
     pub id: Bytes,
     pub selects: List<Select>,
-    pub data: Data,
+    pub division: Data,
 }
 
 impl Drop for Opening {
@@ -26,7 +26,7 @@ impl Drop for Opening {
         let Opening {
             id: _id,
             selects: _selects,
-            data: _data,
+            division: _division,
         } = self;
     }
 }
@@ -42,21 +42,6 @@ impl Data {
         add_names(alloc, &mut list, self.storage.items())?;
         Ok(CondNames { list })
     }
-
-    /// The program with this data division.
-    fn program(self, words: List<Word>, id: Bytes, selects: List<Select>, paragraphs: List<Paragraph>) -> Program
-        ensures { result ≡ spec.program_of words id selects self paragraphs }
-    {
-        let Data { files, storage } = self;
-        Program {
-            id,
-            words,
-            selects,
-            files,
-            storage,
-            paragraphs,
-        }
-    }
 }
 
 impl Opening {
@@ -64,8 +49,12 @@ impl Opening {
     fn program(self, words: List<Word>, paragraphs: List<Paragraph>) -> Program
         ensures { result ≡ spec.program_after words self paragraphs }
     {
-        let Opening { id, selects, data } = self;
-        data.program(words, id, selects, paragraphs)
+        let Opening {
+            id,
+            selects,
+            division,
+        } = self;
+        division.program(words, id, selects, paragraphs)
     }
 }
 
@@ -116,7 +105,7 @@ impl<'a> Units<'a> {
     {
         match self.data_division(at)? {
             Err(refused) => Ok(Err(refused)),
-            Ok((data, next)) => Ok(Ok((Opening { id, selects, data }, next))),
+            Ok((division, next)) => Ok(Ok((Opening { id, selects, division }, next))),
         }
     }
 
@@ -169,7 +158,7 @@ impl<'a> Units<'a> {
         match self.opening()? {
             Err(refused) => Ok(Err(refused)),
             Ok((opening, next)) => {
-                let names = opening.data.cond_names(self.parts.alloc)?;
+                let names = opening.division.cond_names(self.parts.alloc)?;
                 match self.procedure_with(&names, program, next)? {
                     Err(refused) => Ok(Err(refused)),
                     Ok(paragraphs) => {

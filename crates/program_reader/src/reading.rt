@@ -26,12 +26,14 @@ impl Drop for Reading {
 }
 
 /// What each of the words reads as.
-pub fn readings_of(alloc: Global, words: &[Word]) -> Result<List<Reading>, Memory>
-    ensures { IfOk result (spec.AreReadings words.now) }
+pub fn readings_of(alloc: Global, mut words: &[Word]) -> Result<List<Reading>, Memory>
+    ensures { IfOk result (spec.AreReadings words.entry.now) }
 {
     let mut readings = List::new(alloc);
-    for word in words {
-        readings.push(reading_of(alloc, word)?)?;
+    while let [word, rest @ ..] = words {
+        let reading = reading_of(alloc, word)?;
+        readings.push(reading)?;
+        words = rest;
     }
     Ok(readings)
 }

@@ -10,8 +10,6 @@ use y2k_base::{List, Memory, Word, WordKind};
 pub enum Term {
     /// A word that stands in no header and no entry, or in conditions too.
     Unlisted,
-    /// The character-string of a PICTURE clause.
-    PictureText,
     /// IDENTIFICATION or ID; the latter may be a name too.
     Identification,
     Division,
@@ -172,7 +170,7 @@ pub fn term_of(word: &Word) -> Term
         WordKind::Name => term_of_name(word.text.items()),
         WordKind::Number => Term::Unlisted,
         WordKind::Literal => Term::Unlisted,
-        WordKind::Picture => Term::PictureText,
+        WordKind::Picture => Term::Unlisted,
         WordKind::Mark => Term::Unlisted,
     }
 }

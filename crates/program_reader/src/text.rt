@@ -20,6 +20,7 @@ pub struct Units<'a> {
     pub readings: &'a [Reading],
     pub file: FileId,
     ghost fits: { length terms.now < 2 ^ 32 },
+    ghost read: { length readings.now < 2 ^ 32 },
 }
 
 impl<'a> Units<'a> {
