@@ -8,7 +8,7 @@ returns-in-None c = turn_refused _ with_part _ c.loop-turn._turn _ _ c.loop-turn
 
 pub loop-turn-preserved : goal.loop-turn-preserved
 loop-turn-preserved c =
-    rw c.beside-in-Some.ensures
+    rw c.beside-draft.ensures
     (turn_taken _ with_part _ c.loop-turn._turn _ _ _ _ c.loop-turn.invariant (omega arith) (sym c.in_ok-next_entry_part.ensures ∙ c.in-Some.is))
 
 pub returns : goal.returns

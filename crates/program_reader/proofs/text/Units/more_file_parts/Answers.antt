@@ -8,7 +8,7 @@ returns-in-None c = turn_refused _ with_file_part _ c.loop-turn._turn _ _ c.loop
 
 pub loop-turn-preserved : goal.loop-turn-preserved
 loop-turn-preserved c =
-    rw c.into_contains-in-Some.ensures
+    rw c.into_contains-contains.ensures
     (turn_taken _ with_file_part _ c.loop-turn._turn _ _ _ _ c.loop-turn.invariant (omega arith) (sym c.in_ok-next_file_part.ensures ∙ c.in-Some.is))
 
 pub returns : goal.returns
