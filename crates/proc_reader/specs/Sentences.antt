@@ -4,5 +4,5 @@ use Rattle.cobol_syntax.specs.declared.program.Sentence.{Sentence}
 use Rattle.proc_reader.specs.declared.spot.Spot.{Spot}
 use Rattle.proc_reader.specs.Source.{Source}
 
-unfoldable pub sentence : Source → ℕ → ℕ → Option (Sentence × Spot)
-sentence t i n = None
+unfoldable pub sentence : Source → ℕ → Spot → Option (Sentence × Spot)
+sentence t level spot = None

@@ -9,8 +9,19 @@ pub enum Keyword {
     Unlisted,
 }
 
-pub fn keywords_of(_alloc: Global, words: &[Word]) -> Result<List<Keyword>, Memory>
+#[tactic(auto, unfolding(crate::specs::Keywords::keyword_of))]
+fn keyword_of(_word: &Word) -> Keyword
+    ensures { result ≡ spec.keyword_of _word.now }
+{
+    Keyword::Unlisted
+}
+
+pub fn keywords_of(alloc: Global, words: &[Word]) -> Result<List<Keyword>, Memory>
     ensures { IfOk result (λ keywords. keywords ≡ map spec.keyword_of words.now) }
 {
-    if words.is_empty() { Err(Memory) } else { Err(Memory) }
+    let mut keywords = List::new(alloc);
+    for word in words {
+        keywords.push(keyword_of(word))?;
+    }
+    Ok(keywords)
 }

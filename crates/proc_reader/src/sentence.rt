@@ -20,8 +20,8 @@ impl<'a> Sentences<'a> {
     ghost use Rattle.proc_reader.specs.Reading.{IsUnread};
 
     pub fn sentence(&self, _at: u32, _number: u32) -> Result<(Sentence, Spot), Stop>
-        ensures read { IfOk result (λ r. spec.sentence (source_of self.now) _at _number ≡ Some r) }
-        ensures unread { IfErr result (IsUnread (spec.sentence (source_of self.now) _at _number)) }
+        ensures read { IfOk result (λ r. spec.sentence (source_of self.now) 64 (record { at = _at; number = _number }) ≡ Some r) }
+        ensures unread { IfErr result (IsUnread (spec.sentence (source_of self.now) 64 (record { at = _at; number = _number }))) }
     {
         Err(Stop::Memory)
     }

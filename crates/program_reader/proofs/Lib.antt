@@ -6,6 +6,7 @@ pub mod NameRuns
 pub mod PartLaws
 pub mod ProcedureLaws
 pub mod ProgramLaws
+pub mod ReadingLaws
 pub mod SelectLaws
 pub mod Steps
 pub mod Tables

@@ -19,7 +19,7 @@ use Rattle.program_reader.specs.declared.procedure.Chapters.{Chapters}
 use Rattle.program_reader.specs.declared.procedure.Heading.{Heading}
 use Rattle.program_reader.specs.declared.term.Term.TheVariants as k
 use Rattle.program_reader.specs.Views.{View, header, headers, ended, closed_by}
-use Rattle.program_reader.specs.Programs.{so, so_at, each, fault, required, required_at}
+use Rattle.program_reader.specs.Programs.{so, so_at, each, required, required_at}
 use Rattle.program_reader.specs.Procedures.{with_paragraph, heading_end, heading, heading_unit, begins_sentence, with_sentence, next_sentence, more_sentences, with_body, next_paragraph, more_paragraphs, unnamed, chapters, closed, procedure}
 use Rattle.program_reader.specs.Grammar.{Header, Headers, NameUnit}
 use Rattle.program_reader.specs.ProgramGrammar.{IsHeading, Sentences, IsParagraph, Paragraphs, Chapters as IsChapters, Procedure}
@@ -53,7 +53,7 @@ module _ (v : View) where
       heading-by i step.end j step.part h (header v k.Section step.end) step.read refl step.rest
 
   module _ (t : Source) (IsSentence : ℕ → ℕ → Sentence → Spot → Type 0)
-      (sentence-sound : (i n : ℕ) (x : Sentence) (next : Spot) → sentence t i n ≡ Some (x, next) → IsSentence i n x next) where
+      (sentence-sound : (i n : ℕ) (x : Sentence) (next : Spot) → sentence t 64 (spot i n) ≡ Some (x, next) → IsSentence i n x next) where
     -- one more sentence
     pub record Next (b : Body) (i : ℕ) (c : Body) (j : ℕ) : Type 0 where
       pub x : Sentence
@@ -63,7 +63,7 @@ module _ (v : View) where
       pub number : c.number ≡ next.number
       pub at : j ≡ next.at
 
-    next-by : (b c : Body) (i j : ℕ) (r : Option (Sentence × Spot)) → sentence t i b.number ≡ r → with_sentence v b i r ≡ Ok (c, j) → Next b i c j
+    next-by : (b c : Body) (i j : ℕ) (r : Option (Sentence × Spot)) → sentence t 64 (spot i b.number) ≡ r → with_sentence v b i r ≡ Ok (c, j) → Next b i c j
     next-by b c i j None e h = absurd (cc)
     next-by b c i j (Some p) e h =
         let same = ok_found (record { sentences = with_last b.sentences p.0; number = p.1.number }) c p.1.at j h in
@@ -78,7 +78,7 @@ module _ (v : View) where
 
     next-sound : (b c : Body) (i j : ℕ) → next_sentence v t b i ≡ Ok (c, j) → Next b i c j
     unfolding next_sentence
-    next-sound b c i j h = next-by b c i j (sentence t i b.number) refl h
+    next-sound b c i j h = next-by b c i j (sentence t 64 (spot i b.number)) refl h
 
     -- sentences added to others
     pub record Grown (b : Body) (i : ℕ) (c : Body) (j : ℕ) : Type 0 where

@@ -22,6 +22,7 @@ use Rattle.program_reader.specs.declared.fault.Refused.{Refused}
 use Rattle.program_reader.specs.declared.read.Opening.{Opening}
 use Rattle.program_reader.specs.declared.reading.Reading.{Reading}
 use Rattle.program_reader.specs.declared.reading.Reading.TheVariants as reading
+use Rattle.program_reader.specs.declared.term.Term.TheVariants as k
 use Rattle.program_reader.specs.Readings.{AreReadings, IsReadingOf, IsReadingBy}
 use Rattle.program_reader.specs.Views.{View}
 use Rattle.program_reader.specs.Drafts.{plain_entry}
@@ -34,9 +35,9 @@ use Rattle.program_reader.specs.EntryGrammar.{Clauses, EntryClause, IsDraft}
 use Rattle.program_reader.specs.EntryGrammar.Clauses.{stop, more}
 use Rattle.program_reader.specs.EntryGrammar.EntryClause.{picture as of_picture, usage_is, occurs as of_occurs, sign_is, value as of_value}
 use Rattle.program_reader.specs.EntryGrammar.IsDraft.{item, condition}
-use Rattle.program_reader.specs.ProgramGrammar.{IsPictured, IsProgram}
+use Rattle.program_reader.specs.ProgramGrammar.{Identification, Environment, DataDivision, IsPictured, IsProgram}
 use Rattle.program_reader.specs.ProgramGrammar.IsPictured.{plain as without_picture, pictured as with_a_picture}
-use Rattle.program_reader.proofs.Steps.{if_either, so-ok}
+use Rattle.program_reader.proofs.Steps.{if_either, so-ok, ok_found}
 use Rattle.program_reader.proofs.ProgramLaws.{ok_same, identification-sound, environment-sound, data-sound}
 use Rattle.program_reader.proofs.ProcedureLaws.{procedure-sound}
 
@@ -96,11 +97,33 @@ module _ (v : View) where
 
   -- what the reader of sentences reads
   abbrev pub SentenceAt : ℕ → List (List ℕ) → ℕ → ℕ → Sentence → Spot → Type 0
-  SentenceAt program names i n x next = sentence (source_with v.text.words names program) i n ≡ Some (x, next)
+  SentenceAt program names i n x next = sentence (source_with v.text.words names program) 64 (record { at = i; number = n }) ≡ Some (x, next)
 
   nonempty : {X : Type 0} (xs : List X) (x : X) → slice_get xs 0 ≡ Some x → (n : ℕ) × (length xs ≡ suc n)
   nonempty [] x h = absurd (cc)
   nonempty (y ∷ ys) x h = (length ys, refl)
+
+  finished : (o : Opening) (i : ℕ) (program : ℕ) (p : Program) (a j : ℕ) (r : Result (List Paragraph) Refused)
+      → Identification v 0 a o.id → Environment v a j o.selects → DataDivision v j i o.division
+      → procedure v (source_with v.text.words (cond_names o.division) program) i ≡ r → after_opening v o r ≡ Ok p → IsProgram v (SentenceAt program) p
+  finished o i program p a j (Err refused) first second third e h = absurd (cc)
+  finished o i program p a j (Ok paragraphs) first second third e h =
+      let some = nonempty v.terms k.Identification first.headers.first.first.term_is in
+      record {
+        at_environment = a;
+        at_data = j;
+        at_procedure = i;
+        id = o.id;
+        selects = o.selects;
+        data_division = o.division;
+        paragraphs = paragraphs;
+        identification = first;
+        environment = second;
+        sections = third;
+        procedure = procedure-sound v (source_with v.text.words (cond_names o.division) program) (SentenceAt program (cond_names o.division)) (λ l n x next read. read)
+            some.0 some.1 paragraphs i e;
+        is = sym (ok_same (program_after v.text.words o paragraphs) p h);
+      }
 
   pub whole-sound : AreReadings v.text.words v.readings → (program : ℕ) (p : Program) → whole v program ≡ Ok p → IsProgram v (SentenceAt program) p
   unfolding whole opening opening_rest opening_data procedure_with
@@ -109,4 +132,11 @@ module _ (v : View) where
       let first = so-ok (identification v 0) (λ id j. opening_rest v id j) (start.part, start.end) start.read in
       let second = so-ok (environment v first.end) (λ selects j. opening_data v first.part selects j) (start.part, start.end) first.rest in
       let third = so-ok (data_division v second.end) (λ d j. Ok (record { id = first.part; selects = second.part; division = d }, j)) (start.part, start.end) second.rest in
-      ?
+      let o : Opening = record { id = first.part; selects = second.part; division = third.part } in
+      let same = ok_found o start.part third.end start.end third.rest in
+      let rest : after_opening v o (procedure v (source_with v.text.words (cond_names o.division) program) third.end) ≡ Ok p =
+          subst (λ (j : ℕ). after_opening v o (procedure v (source_with v.text.words (cond_names o.division) program) j) ≡ Ok p) (sym same.1)
+          (subst (λ (q : Opening). after_opening v q (procedure v (source_with v.text.words (cond_names q.division) program) start.end) ≡ Ok p) (sym same.0) start.rest) in
+      finished o third.end program p first.end second.end (procedure v (source_with v.text.words (cond_names o.division) program) third.end)
+          (identification-sound v 0 first.end first.part first.read) (environment-sound v first.end second.end second.part second.read)
+          (data-sound v (picture-sound a) second.end third.end third.part third.read) refl rest

@@ -15,7 +15,8 @@ use Rattle.program_reader.specs.declared.procedure.Chapters.{Chapters}
 use Rattle.program_reader.specs.declared.procedure.Heading.{Heading}
 use Rattle.program_reader.specs.declared.term.Term.TheVariants as k
 use Rattle.program_reader.specs.Views.{View, header, headers, ended, closed_by}
-use Rattle.program_reader.specs.Programs.{Outcome, so, so_at, each, fault, required, required_at}
+use Rattle.program_reader.specs.UnitFaults.{fault}
+use Rattle.program_reader.specs.Programs.{Outcome, so, so_at, each, required, required_at}
 
 -- the paragraphs and sections, with one more
 abbrev pub with_paragraph : Chapters → Heading → ℕ → Body → Chapters
@@ -50,7 +51,7 @@ module _ (v : View) where
     with_sentence b i (Some p) = Ok (record { sentences = with_last b.sentences p.0; number = p.1.number }, p.1.at)
 
     unfoldable pub next_sentence : Body → ℕ → Outcome Body
-    next_sentence b i = with_sentence b i (sentence t i b.number)
+    next_sentence b i = with_sentence b i (sentence t 64 (record { at = i; number = b.number }))
 
     unfoldable pub more_sentences : Body → ℕ → Outcome Body
     more_sentences = each begins_sentence next_sentence (length v.terms)

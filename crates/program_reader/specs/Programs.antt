@@ -1,20 +1,15 @@
 -- How the divisions of a program are read, unit by unit.
 use Rattle.std.specs.Prelude.{ℕ, zero, suc, ◌+◌, Bool, true, false, nat_lt, ◌-◌, ◌==◌, if◌then◌else◌, List, [], ◌∷◌, Option, Some, None, Result, Ok, Err, length, slice_get}
-use Rattle.y2k_base.specs.declared.word.Word.{Word}
-use Rattle.y2k_base.specs.declared.word.Origin.{Origin}
 use Rattle.cobol_syntax.specs.declared.program.Entry.{Entry}
 use Rattle.cobol_syntax.specs.declared.program.FileEntry.{FileEntry}
 use Rattle.cobol_syntax.specs.declared.program.Select.{Select}
 use Rattle.cond_reader.specs.declared.symbol.Symbol.TheVariants as s
 use Rattle.cond_reader.specs.Text.{sees}
 use Rattle.cond_reader.specs.Reads.{with_last}
-use Rattle.program_reader.specs.declared.unit_fault.UnitFault.{UnitFault}
-use Rattle.program_reader.specs.declared.unit_fault.UnitFault.TheVariants as unit
-use Rattle.program_reader.specs.UnitFaults.{unit_fault}
+use Rattle.program_reader.specs.UnitFaults.{fault}
 use Rattle.program_reader.specs.declared.data.Data.{Data}
 use Rattle.program_reader.specs.declared.entry.Draft.{Draft}
 use Rattle.program_reader.specs.declared.fault.Refused.{Refused}
-use Rattle.program_reader.specs.declared.fault.RefusedKind.TheVariants as r
 use Rattle.program_reader.specs.declared.reading.Reading.{Reading}
 use Rattle.program_reader.specs.declared.reading.Reading.TheVariants as reading
 use Rattle.program_reader.specs.declared.term.Term.{Term}
@@ -48,34 +43,12 @@ unfoldable pub each : {A : Type 0} → (ℕ → Bool) → (A → ℕ → Result 
 each begins next zero a i = Ok (a, i)
 each begins next (suc n) a i = if begins i then so (next a i) (λ b j. each begins next n b j) else Ok (a, i)
 
-abbrev pub refused_of : UnitFault → Refused
-refused_of (unit.UnitShape at) = record { kind = r.UnitShape; at = at }
-refused_of (unit.NestDeep at) = record { kind = r.NestDeep; at = at }
-refused_of unit.Memory = record { kind = r.UnitShape; at = record { file = record { 0 = 0 }; line = 0; column = 0 } }
-
-abbrev pub place_or : Origin → Option Word → Origin
-place_or at None = at
-place_or at (Some word) = word.origin
-
 abbrev pub with_entries : FileEntry → List Entry → FileEntry
 with_entries f es = record f { entries = es }
 
 module _ (v : View) where
-  -- of the last word, or line 1, column 1
-  unfoldable pub last_place : Origin
-  last_place =
-      let start : Origin = record { file = v.file; line = 1; column = 1 } in
-      let count = length v.text.words in
-      if count == 0 then start else place_or start (slice_get v.text.words (count - 1))
-
-  -- why no unit that may stand here is read
-  unfoldable pub fault : ℕ → Refused
-  fault i =
-      if nat_lt i (length v.text.words) then refused_of (unit_fault v.text i)
-      else record { kind = r.UnitShape; at = last_place }
-
   abbrev pub required_at : {A : Type 0} → Option A → ℕ → Result A Refused
-  required_at None i = Err (fault i)
+  required_at None i = Err (fault v i)
   required_at (Some a) i = Ok a
 
   unfoldable pub required : Option ℕ → ℕ → Result ℕ Refused

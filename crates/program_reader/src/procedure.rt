@@ -57,10 +57,7 @@ impl<'a> Units<'a> {
     {
         match self.heading(at)? {
             Some(found) => Ok(Ok(found)),
-            None => {
-                let refused = self.fault(at)?;
-                Ok(Err(refused))
-            }
+            None => Ok(Err(self.fault(at))),
         }
     }
 
@@ -83,10 +80,7 @@ impl<'a> Units<'a> {
                 Ok(Ok((body, spot.at)))
             }
             Err(Stop::Memory) => Err(Memory),
-            Err(Stop::Unread) => {
-                let refused = self.fault(at)?;
-                Ok(Err(refused))
-            }
+            Err(Stop::Unread) => Ok(Err(self.fault(at))),
         }
     }
 
@@ -203,8 +197,7 @@ impl<'a> Units<'a> {
         ensures { IfOk result (λ r. r ≡ spec.chapters (view_of self.now) (source_of sentences.now) at) }
     {
         if self.parts.sees(Symbol::End, at) {
-            let refused = self.fault(at)?;
-            return Ok(Err(refused));
+            return Ok(Err(self.fault(at)));
         }
         let empty = Chapters {
             paragraphs: List::new(self.parts.alloc),
@@ -228,8 +221,7 @@ impl<'a> Units<'a> {
         if self.parts.sees(Symbol::End, end) {
             Ok(Ok(paragraphs))
         } else {
-            let refused = self.fault(end)?;
-            Ok(Err(refused))
+            Ok(Err(self.fault(end)))
         }
     }
 

@@ -3,66 +3,16 @@ ghost use Rattle.program_reader.specs.Programs as spec;
 ghost use Rattle.program_reader.specs.View.{view_of};
 
 use crate::entry::Draft;
-use crate::fault::{Refused, RefusedKind};
+use crate::fault::Refused;
 use crate::reading::Reading;
 use crate::text::{Outcome, Units};
 use cobol_syntax::{Entry, FileEntry, Select};
-use crate::unit_fault::{UnitFault, unit_fault};
-use y2k_base::{Bytes, Memory, Origin, Twin};
+use y2k_base::{Bytes, Memory, Twin};
 
 /// The position of the next unit, or why the first unit that can't be read has no reading.
 pub type Passed = Result<Result<u32, Refused>, Memory>;
 
-/// The refusal of a unit without a reading. Want of memory is none.
-fn refused_of(fault: UnitFault) -> Result<Refused, Memory>
-    ensures { IfOk result (λ r. r ≡ spec.refused_of fault) }
-{
-    match fault {
-        UnitFault::UnitShape(at) => Ok(Refused {
-            kind: RefusedKind::UnitShape,
-            at,
-        }),
-        UnitFault::NestDeep(at) => Ok(Refused {
-            kind: RefusedKind::NestDeep,
-            at,
-        }),
-        UnitFault::Memory => Err(Memory),
-    }
-}
-
 impl<'a> Units<'a> {
-    /// The place of the last word; line 1, column 1 where there is none.
-    #[tactic(auto, unfolding(crate::specs::Programs::last_place))]
-    fn last_place(&self) -> Origin
-        ensures { result ≡ spec.last_place (view_of self.now) }
-    {
-        let count = self.parts.words.len();
-        if count == 0 {
-            Origin {
-                file: self.file,
-                line: 1,
-                column: 1,
-            }
-        } else {
-            self.parts.words[count - 1].origin
-        }
-    }
-
-    /// Why no unit that may stand at a position is read there.
-    #[tactic(auto, unfolding(crate::specs::Programs::fault))]
-    pub fn fault(&self, at: u32) -> Result<Refused, Memory>
-        ensures { IfOk result (λ r. r ≡ spec.fault (view_of self.now) at) }
-    {
-        if (at as usize) < self.parts.words.len() {
-            refused_of(unit_fault(&self.parts, at))
-        } else {
-            Ok(Refused {
-                kind: RefusedKind::UnitShape,
-                at: self.last_place(),
-            })
-        }
-    }
-
     /// A header that must stand at a position, as it was found there.
     #[tactic(auto, unfolding(crate::specs::Programs::required))]
     pub fn required(&self, found: Option<u32>, at: u32) -> Passed
@@ -70,10 +20,7 @@ impl<'a> Units<'a> {
     {
         match found {
             Some(next) => Ok(Ok(next)),
-            None => {
-                let refused = self.fault(at)?;
-                Ok(Err(refused))
-            }
+            None => Ok(Err(self.fault(at))),
         }
     }
 
@@ -84,10 +31,7 @@ impl<'a> Units<'a> {
     {
         match self.named(at)? {
             Some(found) => Ok(Ok(found)),
-            None => {
-                let refused = self.fault(at)?;
-                Ok(Err(refused))
-            }
+            None => Ok(Err(self.fault(at))),
         }
     }
 
@@ -98,10 +42,7 @@ impl<'a> Units<'a> {
     {
         match self.select(at)? {
             Some(found) => Ok(Ok(found)),
-            None => {
-                let refused = self.fault(at)?;
-                Ok(Err(refused))
-            }
+            None => Ok(Err(self.fault(at))),
         }
     }
 
@@ -112,10 +53,7 @@ impl<'a> Units<'a> {
     {
         match self.file(at)? {
             Some(found) => Ok(Ok(found)),
-            None => {
-                let refused = self.fault(at)?;
-                Ok(Err(refused))
-            }
+            None => Ok(Err(self.fault(at))),
         }
     }
 
@@ -161,10 +99,7 @@ impl<'a> Units<'a> {
         ensures { IfOk result (λ r. r ≡ spec.entry_unit (view_of self.now) at) }
     {
         match self.entry(at)? {
-            None => {
-                let refused = self.fault(at)?;
-                Ok(Err(refused))
-            }
+            None => Ok(Err(self.fault(at))),
             Some((draft, next)) => match self.pictured(draft)? {
                 Err(refused) => Ok(Err(refused)),
                 Ok(entry) => Ok(Ok((entry, next))),
