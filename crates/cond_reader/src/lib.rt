@@ -5,6 +5,7 @@
 mod chars;
 mod cond;
 mod expr;
+mod kind;
 mod place;
 mod read;
 mod symbol;
@@ -13,6 +14,9 @@ mod table;
 mod tests;
 mod text;
 
+pub use chars::whole;
+pub use kind::{CondNames, Kind, kinds_of};
 pub use read::read_expr;
 pub use symbol::{Symbol, same_symbol};
-pub use text::{CondNames, Found, Reader};
+pub use table::value_of;
+pub use text::{Found, Reader};

@@ -1,0 +1,5 @@
+pub mod Keywords
+pub mod Reading
+pub mod Sentences
+pub mod Source
+pub mod View

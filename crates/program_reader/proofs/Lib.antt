@@ -1,0 +1,13 @@
+pub mod CondEntryLaws
+pub mod Eaches
+pub mod EntryLaws
+pub mod FileLaws
+pub mod NameRuns
+pub mod PartLaws
+pub mod ProcedureLaws
+pub mod ProgramLaws
+pub mod ReadingLaws
+pub mod SelectLaws
+pub mod Steps
+pub mod Tables
+pub mod WholeLaws

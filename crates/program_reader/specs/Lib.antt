@@ -1,0 +1,16 @@
+pub mod CondEntries
+pub mod Drafts
+pub mod Entries
+pub mod EntryGrammar
+pub mod Files
+pub mod Grammar
+pub mod Procedures
+pub mod ProgramGrammar
+pub mod Programs
+pub mod Readings
+pub mod Selects
+pub mod Terms
+pub mod UnitFaults
+pub mod View
+pub mod Views
+pub mod Whole
