@@ -10,7 +10,7 @@ use Rattle.date_types.specs.Facts.{IsClean}
 use Rattle.date_types.specs.Order.{IsAscending}
 use Rattle.label_spread.specs.Derivation.{AreDerivable}
 use Rattle.cobol_syntax.specs.declared.program.Program.{Program}
-use Rattle.label_command.specs.declared.form.Simple.{Simple}
+use Rattle.label_command.specs.declared.form.PlainProgram.{PlainProgram}
 use Rattle.program_reader.specs.declared.fault.RefusedKind.{RefusedKind}
 use Rattle.program_reader.specs.declared.fault.RefusedKind.TheVariants as kinds
 use Rattle.label_command.specs.declared.refusal.Refusal.{Refusal}
@@ -22,7 +22,7 @@ use Rattle.label_command.specs.Texts.{IsTree, IsRefusedText}
 
 -- the text is the lines of the least labelling of the program in which the first two bytes of the area are a year, and
 -- clean says whether no byte has unlike labels
-pub record AreLabelsFrom (program : Simple) (area : ℕ) (clean : Bool) (text : List ℕ) : Type 0 where
+pub record AreLabelsFrom (program : PlainProgram) (area : ℕ) (clean : Bool) (text : List ℕ) : Type 0 where
   pub facts : List Fact
   pub ordered : IsAscending facts
   pub least : AreDerivable (year_seeds_of area) (map rule_for program.moves) facts
@@ -30,12 +30,12 @@ pub record AreLabelsFrom (program : Simple) (area : ℕ) (clean : Bool) (text : 
   pub printed : text ≡ lines_of program.items facts
 
 -- the same, where the area is the item's
-abbrev pub AreLabels : Simple → List ℕ → Bool → List ℕ → Type 0
+abbrev pub AreLabels : PlainProgram → List ℕ → Bool → List ℕ → Type 0
 AreLabels program item clean text = (area : ℕ) × (year_area_of program.items item ≡ Some area) × AreLabelsFrom program area clean text
 
 -- the text is a program with these label lines
 abbrev pub IsLabelled : List ℕ → List ℕ → Bool → List ℕ → Type 0
-IsLabelled bytes item clean text = (tree : Program) × IsTree bytes tree × ((simple : Simple) × AreLabels simple item clean text)
+IsLabelled bytes item clean text = (tree : Program) × IsTree bytes tree × ((plain : PlainProgram) × AreLabels plain item clean text)
 
 -- the shelf has such a text
 abbrev pub AreLabelsOf : List ℕ → List ℕ → Option Files → Bool → List ℕ → Type 0
@@ -44,7 +44,7 @@ AreLabelsOf source item told clean text = (bytes : List ℕ) × HasText source 0
 -- what a program may lead to
 abbrev pub HasTreeCause : List ℕ → Refusal → Type 0
 HasTreeCause item (refusals.NotYetRead at) = Unit {0}
-HasTreeCause item refusals.SeedUnknown = (simple : Simple) × (year_area_of simple.items item ≡ None)
+HasTreeCause item refusals.SeedUnknown = (plain : PlainProgram) × (year_area_of plain.items item ≡ None)
 HasTreeCause item refusals.Memory = Unit {0}
 HasTreeCause item _ = ⊥
 

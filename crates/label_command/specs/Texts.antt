@@ -15,7 +15,8 @@ use Rattle.copy_origins.specs.declared.books.CopyFault.TheVariants as copy
 use Rattle.program_reader.specs.declared.fault.RefusedKind.{RefusedKind}
 use Rattle.program_reader.specs.declared.fault.RefusedKind.TheVariants as kind
 use Rattle.program_reader.specs.declared.fault.ReadFault.TheVariants as read
-use Rattle.program_reader.specs.Whole.{IsAnswer, IsRefusal}
+use Rattle.program_reader.specs.IsReads.{IsRead}
+use Rattle.program_reader.specs.Whole.{IsRefusal}
 use Rattle.label_command.specs.declared.refusal.Refusal.{Refusal}
 use Rattle.label_command.specs.declared.refusal.Refusal.TheVariants as r
 
@@ -41,7 +42,7 @@ AreWords bytes words = (words ≡ words_in the_text (lines bytes)) × (faults_in
 
 -- The program that expanded words, the words of a text, and a text are.
 abbrev pub IsTreeOfExpanded : List Word → Program → Type 0
-IsTreeOfExpanded words tree = IsAnswer words 0 the_text (Ok tree)
+IsTreeOfExpanded words tree = IsRead words 0 the_text tree
 
 abbrev pub IsTreeOfWords : List Word → Program → Type 0
 IsTreeOfWords words tree = (expanded : List Word) × IsExpansion words [] expanded × IsTreeOfExpanded expanded tree

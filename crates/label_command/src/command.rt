@@ -9,11 +9,11 @@ ghost use Rattle.label_command.specs.Texts.{IsTree, IsTreeOfWords, IsTreeOfExpan
 ghost use Rattle.label_command.specs.Rules.{rule_for};
 ghost use Rattle.label_command.specs.Years.{year_seeds_of};
 
-use crate::form::{MoveEntry, Simple};
+use crate::form::{MoveEntry, PlainProgram};
 use crate::print::label_lines;
 use crate::refusal::{Refusal, refuse};
 use crate::rules::rules_of;
-use crate::simple::{Unread, simple};
+use crate::plain::{NotLabelled, plain_program};
 use crate::year::{year_area, year_seeds};
 use answers::{CONFLICT, DONE, say};
 use cobol_syntax::Program;
@@ -180,17 +180,17 @@ fn tree_of_expanded(alloc: Global, expanded: &Expanded) -> Result<Program, Refus
 
 /// The label lines of a program.
 fn labels_of_tree(alloc: Global, tree: &Program, item: &str) -> Result<Labels, Refusal>
-    ensures labels { IfOk result (λ labels. (simple : Simple) × AreLabels simple item.now labels.clean (string_bytes labels.text)) }
+    ensures labels { IfOk result (λ labels. (plain : PlainProgram) × AreLabels plain item.now labels.clean (string_bytes labels.text)) }
     ensures cause { IfErr result (HasTreeCause item.now) }
 {
-    match simple(alloc, tree) {
-        Ok(simple) => labels_of_simple(alloc, &simple, item),
-        Err(Unread::At(at)) => Err(Refusal::NotYetRead { at }),
-        Err(Unread::Memory) => Err(Refusal::Memory),
+    match plain_program(alloc, tree) {
+        Ok(plain) => labels_of_plain(alloc, &plain, item),
+        Err(NotLabelled::At(at)) => Err(Refusal::NotYetRead { at }),
+        Err(NotLabelled::Memory) => Err(Refusal::Memory),
     }
 }
 
-fn labels_of_simple(alloc: Global, program: &Simple, item: &str) -> Result<Labels, Refusal>
+fn labels_of_plain(alloc: Global, program: &PlainProgram, item: &str) -> Result<Labels, Refusal>
     ensures labels { IfOk result (λ labels. AreLabels program.now item.now labels.clean (string_bytes labels.text)) }
     ensures cause { IfErr result (HasTreeCause item.now) }
 {
@@ -204,7 +204,7 @@ fn labels_of_simple(alloc: Global, program: &Simple, item: &str) -> Result<Label
 }
 
 /// The label lines where the first two bytes of the area are a year.
-fn labels_from(alloc: Global, program: &Simple, area: u32) -> Result<Labels, Memory>
+fn labels_from(alloc: Global, program: &PlainProgram, area: u32) -> Result<Labels, Memory>
     ensures { IfOk result (λ labels. AreLabelsFrom program.now area labels.clean (string_bytes labels.text)) }
 {
     let labelling = labelling_of(alloc, area, program.moves.items())?;

@@ -29,7 +29,7 @@ pub struct MoveEntry {
 
 /// The items and the moves of a program that has nothing else with a label. Items have the numbers of their areas.
 #[derive(Debug, Drop)]
-pub struct Simple {
+pub struct PlainProgram {
     pub items: List<ItemEntry>,
     pub moves: List<MoveEntry>,
     ghost few: { length items < 2 ^ 32 },

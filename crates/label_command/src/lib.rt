@@ -7,7 +7,7 @@ mod form;
 mod print;
 mod refusal;
 mod rules;
-mod simple;
+mod plain;
 mod year;
 
 pub use command::label_one;

@@ -3,7 +3,7 @@ ghost use Rattle.std.specs.List.{position};
 ghost use Rattle.label_command.specs.Years.{is_named, year_at, year_area_of, year_seeds_of};
 
 use crate::form::ItemEntry;
-use crate::simple::number_of;
+use crate::plain::number_of;
 use date_types::{Fact, Label, Seed};
 use y2k_base::{AreaId, BytePlace};
 

@@ -2,7 +2,7 @@ ghost use Rattle.std.specs.Prelude.{◌≡◌, ◌<◌, ◌≤◌, length, IfSom
 ghost use Rattle.std.specs.List.{position};
 ghost use Rattle.label_command.specs.Years.{is_named};
 
-use crate::form::{ItemEntry, MoveEntry, Shape, Simple};
+use crate::form::{ItemEntry, MoveEntry, Shape, PlainProgram};
 use cobol_syntax::{
     Entry, Form, Operand, Paragraph, Place, Program, Sentence, Statement, Usage,
 };
@@ -12,27 +12,27 @@ use y2k_base::{Bytes, FileId, List, Memory, Origin, PicClass, Picture, Run, Word
 
 /// Why a program isn't labelled yet.
 #[derive(Debug)]
-pub enum Unread {
+pub enum NotLabelled {
     /// The word at which an entry or statement begins whose rule isn't built yet.
     At(Origin),
     Memory,
 }
 
-impl From<Memory> for Unread {
-    fn from(_: Memory) -> Unread {
-        Unread::Memory
+impl From<Memory> for NotLabelled {
+    fn from(_: Memory) -> NotLabelled {
+        NotLabelled::Memory
     }
 }
 
 /// The items and moves of a program that has nothing else that gives or takes a label: items of working storage
 /// of one letter, and moves between items of one shape.
-pub fn simple(alloc: Global, tree: &Program) -> Result<Simple, Unread> {
+pub fn plain_program(alloc: Global, tree: &Program) -> Result<PlainProgram, NotLabelled> {
     let words = tree.words.items();
     if let Some(select) = tree.selects.items().first() {
-        return Err(unread(words, select.at));
+        return Err(not_labelled_at(words, select.at));
     }
     if let Some(file) = tree.files.items().first() {
-        return Err(unread(words, file.at));
+        return Err(not_labelled_at(words, file.at));
     }
     let items = items_of(alloc, words, tree.storage.items())?;
     let mut moves = List::new(alloc);
@@ -40,16 +40,16 @@ pub fn simple(alloc: Global, tree: &Program) -> Result<Simple, Unread> {
         moves_of_paragraph(words, items.items(), paragraph, &mut moves)?;
     }
     if items.len() > u32::MAX as usize {
-        return Err(Unread::Memory);
+        return Err(NotLabelled::Memory);
     }
-    Ok(Simple { items, moves })
+    Ok(PlainProgram { items, moves })
 }
 
 /// The place of a word.
-fn unread(words: &[Word], at: u32) -> Unread {
+fn not_labelled_at(words: &[Word], at: u32) -> NotLabelled {
     match words.get(at as usize) {
-        Some(word) => Unread::At(word.origin),
-        None => Unread::At(FIRST),
+        Some(word) => NotLabelled::At(word.origin),
+        None => NotLabelled::At(FIRST),
     }
 }
 
@@ -60,12 +60,12 @@ const FIRST: Origin = Origin {
     column: 1,
 };
 
-fn items_of(alloc: Global, words: &[Word], entries: &[Entry]) -> Result<List<ItemEntry>, Unread> {
+fn items_of(alloc: Global, words: &[Word], entries: &[Entry]) -> Result<List<ItemEntry>, NotLabelled> {
     let mut items = List::new(alloc);
     for entry in entries {
         match item_of(entry) {
             Some(item) if number_of(items.items(), item.name).is_none() => items.push(item)?,
-            _ => return Err(unread(words, entry.at)),
+            _ => return Err(not_labelled_at(words, entry.at)),
         }
     }
     Ok(items)
@@ -127,7 +127,7 @@ fn moves_of_paragraph(
     items: &[ItemEntry],
     paragraph: &Paragraph,
     moves: &mut List<MoveEntry>,
-) -> Result<(), Unread> {
+) -> Result<(), NotLabelled> {
     for sentence in paragraph.sentences.items() {
         moves_of_sentence(words, items, sentence, moves)?;
     }
@@ -139,7 +139,7 @@ fn moves_of_sentence(
     items: &[ItemEntry],
     sentence: &Sentence,
     moves: &mut List<MoveEntry>,
-) -> Result<(), Unread> {
+) -> Result<(), NotLabelled> {
     for statement in sentence.statements.items() {
         add_move(words, items, statement, moves)?;
     }
@@ -152,7 +152,7 @@ fn add_move(
     items: &[ItemEntry],
     statement: &Statement,
     moves: &mut List<MoveEntry>,
-) -> Result<(), Unread> {
+) -> Result<(), NotLabelled> {
     match &statement.form {
         Form::Stop => Ok(()),
         Form::Nothing => Ok(()),
@@ -162,9 +162,9 @@ fn add_move(
                 moves.push(entry)?;
                 Ok(())
             }
-            None => Err(unread(words, statement.at)),
+            None => Err(not_labelled_at(words, statement.at)),
         },
-        _ => Err(unread(words, statement.at)),
+        _ => Err(not_labelled_at(words, statement.at)),
     }
 }
 
