@@ -14,7 +14,7 @@ use Rattle.program_reader.specs.declared.term.Term.{Term}
 use Rattle.program_reader.specs.declared.term.Term.TheVariants as k
 use Rattle.program_reader.specs.Views.{View, has, past, past_is, past_is_or_are, ended, count}
 use Rattle.program_reader.specs.Files.{with_file_part, is_second, step_to, or_stay, idle, past_one, past_any, records, label, block, recording, past_some_names, past_names, data_records, idle_part, record_contains, file_part, unless_second, next_file_part, more_file_parts, file_rest, file}
-use Rattle.program_reader.specs.Grammar.{Then, Either, one, other, Maybe, absent, given, Any, stop, more, A, S, AnyName, Count}
+use Rattle.program_reader.specs.Grammar.{Then, Either, one, other, Maybe, absent, given, Any, stop, more, A, S, AnyName, Count, IsOrAre}
 use Rattle.program_reader.specs.EntryGrammar.{Clauses, RecordOrRecords, AnyCount, Idle, FileClause, IsFile}
 use Rattle.program_reader.specs.EntryGrammar.Idle.{label as is_label, block as is_block, data_records as is_data, recording as is_recording}
 use Rattle.program_reader.specs.EntryGrammar.FileClause.{idle as idle_clause, contains as contains_clause}
@@ -60,7 +60,7 @@ module _ (v : View) where
       record {
         middle = step.end;
         first = past-one-sound k.Record k.Records i step.end step.read;
-        second = subst (λ (m : ℕ). Maybe _ step.end m) (some_same (past_is_or_are v step.end) j step.rest) (past-is-or-are-sound v step.end);
+        second = subst (λ (m : ℕ). Maybe (IsOrAre v) step.end m) (some_same (past_is_or_are v step.end) j step.rest) (past-is-or-are-sound v step.end);
       }
 
   label-sound : (i j : ℕ) → label v i ≡ Some j → Then (RecordOrRecords v) (Either (A v k.Standard) (A v k.Omitted)) i j

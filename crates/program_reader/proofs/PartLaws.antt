@@ -61,8 +61,12 @@ module _ (v : View) where
         | false ↦ λ e. absent
       ] refl
 
+  with-is : (i j : ℕ) → Maybe (A v k.Are) i j → Maybe (IsOrAre v) i j
+  with-is i j absent = absent
+  with-is i j (given are) = given (other are)
+
   past-are-sound : (i : ℕ) → Maybe (IsOrAre v) i (past v k.Are i)
-  past-are-sound i = elim (past-sound k.Are i) as (λ {i} {j} m. Maybe (IsOrAre v) i j) [ absent ↦ absent | given a ↦ given (other a) ]
+  past-are-sound i = with-is i (past v k.Are i) (past-sound k.Are i)
 
   pub past-is-or-are-sound : (i : ℕ) → Maybe (IsOrAre v) i (past_is_or_are v i)
   unfolding past_is_or_are

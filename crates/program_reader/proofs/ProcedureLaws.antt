@@ -63,7 +63,7 @@ module _ (v : View) where
       pub number : c.number ≡ next.number
       pub at : j ≡ next.at
 
-    next-by : (b c : Body) (i j : ℕ) (r : Option (Sentence × Spot)) → sentence t 64 (spot i b.number) ≡ r → with_sentence v b i r ≡ Ok (c, j) → Next b i c j
+    next-by : (b c : Body) (i j : ℕ) (r : Option (Sentence × Spot)) → sentence t 64 (spot i b.number) ≡ r → with_sentence v t b i r ≡ Ok (c, j) → Next b i c j
     next-by b c i j None e h = absurd (cc)
     next-by b c i j (Some p) e h =
         let same = ok_found (record { sentences = with_last b.sentences p.0; number = p.1.number }) c p.1.at j h in
@@ -91,7 +91,7 @@ module _ (v : View) where
         let none : Grown b i b i = record { xs = []; read = no_sentence; is = sym (append-nil b.sentences) } in
         subst (λ (m : ℕ). Grown b i c m) same.1 (subst (λ (y : Body). Grown b i y i) same.0 none)
 
-    joined : (b c d : Body) (i m j : ℕ) (one : Next b i c m) (rest : Grown c m d j) → Grown b i d j
+    abbrev joined : (b c d : Body) (i m j : ℕ) (one : Next b i c m) (rest : Grown c m d j) → Grown b i d j
     joined b c d i m j one rest =
         let moved : Sentences IsSentence one.next.at one.next.number rest.xs (spot j d.number) =
             subst (λ (n : ℕ). Sentences IsSentence one.next.at n rest.xs (spot j d.number)) one.number

@@ -30,11 +30,13 @@ use Rattle.program_reader.specs.CondEntries.{with_ranges}
 use Rattle.program_reader.specs.Entries.{has_part, with_part, has_reading, is_picture}
 use Rattle.program_reader.specs.Programs.{so, with_reading, with_picture, pictured, identification, environment, data_division}
 use Rattle.program_reader.specs.Procedures.{procedure}
-use Rattle.program_reader.specs.Whole.{cond_names, program_after, source_with, opening_data, opening_rest, opening, procedure_with, after_opening, whole}
+use Rattle.y2k_base.specs.declared.word.FileId.{FileId}
+use Rattle.program_reader.specs.Whole.{IsAnswer, view_with, cond_names, program_after, source_with, opening_data, opening_rest, opening, procedure_with, after_opening, whole}
 use Rattle.program_reader.specs.EntryGrammar.{Clauses, EntryClause, IsDraft}
 use Rattle.program_reader.specs.EntryGrammar.Clauses.{stop, more}
 use Rattle.program_reader.specs.EntryGrammar.EntryClause.{picture as of_picture, usage_is, occurs as of_occurs, sign_is, value as of_value}
 use Rattle.program_reader.specs.EntryGrammar.IsDraft.{item, condition}
+use Rattle.program_reader.specs.IsReads.{SentenceAt, IsRead}
 use Rattle.program_reader.specs.ProgramGrammar.{Identification, Environment, DataDivision, IsPictured, IsProgram}
 use Rattle.program_reader.specs.ProgramGrammar.IsPictured.{plain as without_picture, pictured as with_a_picture}
 use Rattle.program_reader.proofs.Steps.{if_either, so-ok, ok_found}
@@ -79,7 +81,7 @@ module _ (v : View) where
   good-draft i j d (condition w) = subst Good (sym w.is) (λ h. absurd (cc))
 
   picture-by : (d : Draft) (e : Entry) (r : Option Reading) → AreReadings v.text.words v.readings → slice_get v.readings d.entry.picture_at ≡ r
-      → d.has_picture ≡ true → has_reading r ≡ true → with_reading d.entry r ≡ Ok e → IsPictured v d e
+      → d.has_picture ≡ true → has_reading r ≡ true → with_reading v d.entry r ≡ Ok e → IsPictured v d e
   unfolding spelling
   picture-by d e None a at is some h = absurd (cc)
   picture-by d e (Some reading.Plain) a at is some h = absurd (cc)
@@ -95,17 +97,13 @@ module _ (v : View) where
       (λ is read. picture-by d e (slice_get v.readings d.entry.picture_at) a refl is (good-draft i j d w is) read)
       (λ is same. subst (λ (x : Entry). IsPictured v d x) (ok_same d.entry e same) (without_picture is))
 
-  -- what the reader of sentences reads
-  abbrev pub SentenceAt : ℕ → List (List ℕ) → ℕ → ℕ → Sentence → Spot → Type 0
-  SentenceAt program names i n x next = sentence (source_with v.text.words names program) 64 (record { at = i; number = n }) ≡ Some (x, next)
-
   nonempty : {X : Type 0} (xs : List X) (x : X) → slice_get xs 0 ≡ Some x → (n : ℕ) × (length xs ≡ suc n)
   nonempty [] x h = absurd (cc)
   nonempty (y ∷ ys) x h = (length ys, refl)
 
   finished : (o : Opening) (i : ℕ) (program : ℕ) (p : Program) (a j : ℕ) (r : Result (List Paragraph) Refused)
       → Identification v 0 a o.id → Environment v a j o.selects → DataDivision v j i o.division
-      → procedure v (source_with v.text.words (cond_names o.division) program) i ≡ r → after_opening v o r ≡ Ok p → IsProgram v (SentenceAt program) p
+      → procedure v (source_with v.text.words (cond_names o.division) program) i ≡ r → after_opening v o r ≡ Ok p → IsProgram v (SentenceAt v.text.words program) p
   finished o i program p a j (Err refused) first second third e h = absurd (cc)
   finished o i program p a j (Ok paragraphs) first second third e h =
       let some = nonempty v.terms k.Identification first.headers.first.first.term_is in
@@ -120,12 +118,12 @@ module _ (v : View) where
         identification = first;
         environment = second;
         sections = third;
-        procedure = procedure-sound v (source_with v.text.words (cond_names o.division) program) (SentenceAt program (cond_names o.division)) (λ l n x next read. read)
+        procedure = procedure-sound v (source_with v.text.words (cond_names o.division) program) (SentenceAt v.text.words program (cond_names o.division)) (λ l n x next read. read)
             some.0 some.1 paragraphs i e;
         is = sym (ok_same (program_after v.text.words o paragraphs) p h);
       }
 
-  pub whole-sound : AreReadings v.text.words v.readings → (program : ℕ) (p : Program) → whole v program ≡ Ok p → IsProgram v (SentenceAt program) p
+  pub whole-sound : AreReadings v.text.words v.readings → (program : ℕ) (p : Program) → whole v program ≡ Ok p → IsProgram v (SentenceAt v.text.words program) p
   unfolding whole opening opening_rest opening_data procedure_with
   whole-sound a program p h =
       let start = so-ok (opening v) (λ o j. after_opening v o (procedure_with v (cond_names o.division) program j)) p h in
@@ -140,3 +138,10 @@ module _ (v : View) where
       finished o third.end program p first.end second.end (procedure v (source_with v.text.words (cond_names o.division) program) third.end)
           (identification-sound v 0 first.end first.part first.read) (environment-sound v first.end second.end second.part second.read)
           (data-sound v (picture-sound a) second.end third.end third.part third.read) refl rest
+
+pub read-sound : (words : List Word) (program : ℕ) (file : FileId) (p : Program) → IsAnswer words program file (Ok p) → IsRead words program file p
+read-sound words program file p a = record {
+  readings = a.readings;
+  are_readings = a.are_readings;
+  is_program = whole-sound (view_with words a.readings file) a.are_readings program p (sym a.is);
+}

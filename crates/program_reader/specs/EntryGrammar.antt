@@ -35,6 +35,10 @@ pub data Clauses {D P : Type 0} (has : D → P → Bool) (add : D → P → D) (
   stop : {d : D} {i : ℕ} → Clauses has add Clause d i i d
   more : {d e : D} {p : P} {i m j : ℕ} → Clause i m p → has d p ≡ false → Clauses has add Clause (add d p) m j e → Clauses has add Clause d i j e
 
+-- 01 to 49, or 77
+abbrev pub IsLevel : ℕ → Type 0
+IsLevel n = ((0 < n) × (n < 50)) ⊎ (n ≡ 77)
+
 module _ (v : View) where
   -- ORGANIZATION IS? SEQUENTIAL | ACCESS MODE? IS? SEQUENTIAL | FILE? STATUS IS? place
   pub data SelectClause : ℕ → ℕ → SelectPart → Type 0 where
@@ -137,9 +141,6 @@ module _ (v : View) where
   pub data Redefined : ℕ → ℕ → Option (List ℕ) → Type 0 where
     nothing : {i : ℕ} → Redefined i i None
     redefines : {i m j : ℕ} {n : List ℕ} → A v k.Redefines i m → Name v.text m j n → Redefined i j (Some n)
-
-  abbrev pub IsLevel : ℕ → Type 0
-  IsLevel n = ((0 < n) × (n < 50)) ⊎ (n ≡ 77)
 
   -- n (name|FILLER)? (REDEFINES name)? part* .
   pub record IsItem (i j : ℕ) (d : Draft) : Type 0 where

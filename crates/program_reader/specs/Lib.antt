@@ -4,6 +4,7 @@ pub mod Entries
 pub mod EntryGrammar
 pub mod Files
 pub mod Grammar
+pub mod IsReads
 pub mod Procedures
 pub mod ProgramGrammar
 pub mod Programs

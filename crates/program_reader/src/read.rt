@@ -1,4 +1,5 @@
 ghost use Rattle.std.specs.Prelude.{◌≡◌, ◌<◌, ◌^◌, ◌++◌, length, IfOk, IfErr};
+ghost use Rattle.program_reader.specs.IsReads.{IsRead};
 ghost use Rattle.program_reader.specs.Whole as spec;
 ghost use Rattle.program_reader.specs.View.{view_of};
 
@@ -141,11 +142,8 @@ impl<'a> Units<'a> {
         let words = self.parts.words;
         let kinds = kinds_of(alloc, words, names)?;
         let keywords = keywords_of(alloc, words)?;
-        let sentences = Sentences {
-            parts: Reader::new(alloc, words, kinds.items()),
-            keywords: keywords.items(),
-            program,
-        };
+        let parts = Reader::new(alloc, words, kinds.items());
+        let sentences = Sentences::new(parts, keywords.items(), program);
         self.procedure(&sentences, at)
     }
 
@@ -204,7 +202,8 @@ fn read_words(alloc: Global, words: &[Word], program: u32, file: FileId) -> Resu
 
 /// The program that the expanded words are, the number `program` of its portfolio; `file` is its text.
 pub fn read_program(alloc: Global, expanded: &Expanded, program: u32, file: FileId) -> Result<Program, ReadFault>
-    ensures read { IfOk result (λ p. spec.IsAnswer expanded.now.words program file (Ok p)) }
+    ensures read { IfOk result (IsRead expanded.now.words program file) }
+    ensures exact { IfOk result (λ p. spec.IsAnswer expanded.now.words program file (Ok p)) }
     ensures refused { IfErr result (spec.IsRefusal expanded.now.words program file) }
 {
     let words = expanded.words.items();

@@ -1,4 +1,4 @@
-ghost use Rattle.std.specs.Prelude.{IfOk};
+ghost use Rattle.std.specs.Prelude.{◌≡◌, length, IfOk};
 ghost use Rattle.program_reader.specs.Readings as spec;
 
 use crate::fault::{Refused, RefusedKind};
@@ -27,7 +27,8 @@ impl Drop for Reading {
 
 /// What each of the words reads as.
 pub fn readings_of(alloc: Global, mut words: &[Word]) -> Result<List<Reading>, Memory>
-    ensures { IfOk result (spec.AreReadings words.entry.now) }
+    ensures read { IfOk result (spec.AreReadings words.entry.now) }
+    ensures paired { IfOk result (λ readings. length readings ≡ length words.entry.now) }
 {
     let mut readings = List::new(alloc);
     while let [word, rest @ ..] = words {

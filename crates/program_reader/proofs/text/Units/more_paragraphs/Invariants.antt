@@ -10,4 +10,4 @@ use Rattle.program_reader.proofs.text.Units.more_paragraphs.Given as goal
 
 abbrev pub invariant-loop-turn : goal.invariant-loop-turn
 invariant-loop-turn l =
-    more_paragraphs (view_of l.self) (source_of l.sentences) l.fn.chapters l.fn.at ≡ each (λ i. not (sees (view_of l.self).text s.End i)) (next_paragraph (view_of l.self) (source_of l.sentences.now)) (length l.self.terms.now - l._turn) l.chapters l.at
+    more_paragraphs (view_of l.self) (source_of l.sentences) l.fn.chapters l.fn.at ≡ each (λ i. not (sees (view_of l.self).text s.End i)) (next_paragraph (view_of l.self) (source_of l.sentences)) (length l.self.terms.now - l._turn) l.chapters l.at

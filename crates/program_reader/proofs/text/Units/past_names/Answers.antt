@@ -8,4 +8,4 @@ use Rattle.program_reader.proofs.text.Units.past_names.Goals as goal
 pub loop-turn-preserved : goal.loop-turn-preserved
 loop-turn-preserved c =
     let is : sees (view_of c.args.self.now).text s.Name c.loop-turn.at ≡ true = first_of (cc, search rules) in
-    name_passed _ _ c.loop-turn._turn _ c.loop-turn.invariant (omega arith) is
+    name_passed (view_of c.args.self.now) _ c.loop-turn._turn _ c.loop-turn.invariant (omega arith) is
