@@ -36,8 +36,19 @@ fn answer_to(
     shelf_fault: u64,
     sink_fault: u64,
 ) -> Result<Answer, Fail> {
+    let answer = answer_to_bytes(alloc, text.as_bytes(), words, shelf_fault, sink_fault)?;
+    Ok(answer)
+}
+
+fn answer_to_bytes(
+    alloc: Global,
+    bytes: &[u8],
+    words: &[&str],
+    shelf_fault: u64,
+    sink_fault: u64,
+) -> Result<Answer, Fail> {
     let mut shelf = MemoryShelf::new(alloc)?;
-    shelf.put("ONE.cbl", text.as_bytes())?;
+    shelf.put("ONE.cbl", bytes)?;
     shelf.fail_on(shelf_fault)?;
     let mut out = MemorySink::new(alloc)?;
     out.fail_on(sink_fault)?;
@@ -102,7 +113,7 @@ fn refusals_come_in_their_order(rt: HostRuntime) -> Result<(), Fail> {
             unequal.as_str(),
             "ONE.cbl",
             "Z",
-            "refused NotYetRead ONE.cbl:1:1\n",
+            "refused NotYetRead ONE.cbl:9:12\n",
         ),
         (one.as_str(), "ONE.cbl", "Z", "refused SeedUnknown Z\n"),
         (
@@ -199,5 +210,59 @@ fn a_text_past_four_million_bytes_is_too_large(rt: HostRuntime) -> Result<(), Fa
         got.printed.as_slice(),
         b"refused TooLarge ONE.cbl\n".as_slice()
     );
+    Ok(())
+}
+
+/// That many IF statements inside one another, a line each, with CONTINUE in the last.
+fn nested(alloc: Global, depth: usize) -> Result<String, Fail> {
+    let mut text = String::new(alloc);
+    for _ in 0..depth {
+        text.push_str("           IF A = 1\n")?;
+    }
+    text.push_str("           CONTINUE.\n")?;
+    Ok(text)
+}
+
+#[test]
+fn a_program_without_a_reading_is_refused_at_its_unit(rt: HostRuntime) -> Result<(), Fail> {
+    let alloc = rt.alloc();
+    let one = "       01  A PIC 9(2).\n";
+    let most = nested(alloc, 64)?;
+    let more = nested(alloc, 65)?;
+    let cases: [(&str, &str, &str); 9] = [
+        (one, "           CALL \"X\".\n", "UnitShape ONE.cbl:8:12"),
+        (one, "           CONTINUE. MOVE A TO 1.\n", "UnitShape ONE.cbl:8:22"),
+        (one, more.as_str(), "NestDeep ONE.cbl:8:12"),
+        (one, most.as_str(), "NotYetRead ONE.cbl:8:12"),
+        ("       01  A PIC 9(2) PIC 9.\n", "", "UnitShape ONE.cbl:5:8"),
+        ("       50  A PIC 9(2).\n", "", "UnitShape ONE.cbl:5:8"),
+        ("       01  A PIC Q.\n", "", "PictureShape ONE.cbl:5:18"),
+        ("       01  A PIC 9(19).\n", "", "TooManyDigits ONE.cbl:5:18"),
+        ("       01  A COMP PIC 9(2).\n", "", "NotYetRead ONE.cbl:5:8"),
+    ];
+    for (entries, statements, refusal) in cases {
+        let text = program(alloc, entries, statements)?;
+        let line = format!(in alloc; "refused {refusal}\n")?;
+        let got = answer_to(alloc, text.as_str(), &["label-one", "ONE.cbl", "A"], 0, 0)?;
+        assert_eq!(rt; got.printed.as_slice(), line.as_bytes());
+        assert_eq!(rt; got.status, 3);
+    }
+    Ok(())
+}
+
+#[test]
+fn a_text_cut_after_any_byte_is_refused_by_name(rt: HostRuntime) -> Result<(), Fail> {
+    let alloc = rt.alloc();
+    let text = program(
+        alloc,
+        "       01  D PIC 9(6).\n       01  YY PIC 9(2).\n",
+        "           MOVE ZERO TO D.\n      * A COMMENT BETWEEN THEM\n           MOVE 5 TO YY.\n",
+    )?;
+    for length in 0..text.len() {
+        let cut = &text.as_bytes()[..length];
+        let got = answer_to_bytes(alloc, cut, &["label-one", "ONE.cbl", "D"], 0, 0)?;
+        assert_eq!(rt; got.status, 3);
+        assert_eq!(rt; got.printed.as_slice().starts_with(b"refused "), true);
+    }
     Ok(())
 }
