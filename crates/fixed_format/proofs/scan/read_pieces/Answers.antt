@@ -13,9 +13,9 @@ loop-rest-preserved-then-first-eq32 c = (
 
 pub loop-rest-preserved : goal.loop-rest-preserved
 loop-rest-preserved c = (
-  step_piece c.args.file c.args.is_cut c.loop-rest.found c.in_ok-found.found c.loop-rest.behind_gap c.ends_in_gap-behind_gap.result c.loop-rest.rest.now
+  step_piece c.args.file c.args.is_cut c.loop-rest.found c.add_piece.new.found c.loop-rest.behind_gap c.ends_in_gap-behind_gap.result c.loop-rest.rest.now
       c.span-own.result.now c.behind_span-rest.result.now c.first_piece-piece.result c.in-len1-up.len_at_least c.first_piece-piece.ensures c.span-own.ensures
-      c.in_ok-found.ensures c.ends_in_gap-behind_gap.ensures c.behind_span-rest.ensures.value
+      c.in_ok-add_piece.ensures c.ends_in_gap-behind_gap.ensures c.behind_span-rest.ensures.value
       ∙ c.loop-rest.invariant.0,
   keeps c.loop-rest.unlettered c.stays_unlettered-unlettered.result c.loop-rest.found.expected c.loop-rest.behind_gap c.loop-rest.rest.now c.span-own.result.now
       c.behind_span-rest.result.now c.first_piece-piece.result c.loop-rest.invariant.1 c.first_piece-piece.ensures c.span-own.ensures
