@@ -1,6 +1,6 @@
 -- Reading line by line gives the words and the first fault of the lines.
-use Rattle.std.proofs.Common.{◌≡◌, ℕ, ◌+◌, ◌-◌, Bool, true, false, List, [], ◌∷◌, ◌++◌, length, drop, replicate, Option, Some, None, refl, ap, sym, ◌∙◌}
-use Rattle.std.proofs.lemmas.List.{append-nil, append_assoc}
+use Rattle.std.proofs.Common.{◌≡◌, ℕ, ◌+◌, ◌-◌, ◌≤◌, Bool, true, false, List, [], ◌∷◌, ◌++◌, length, take, drop, replicate, Option, None, refl, ap, sym, subst, ◌∙◌, arith}
+use Rattle.std.proofs.lemmas.List.{append-nil, append_assoc, length-append, take_all, take-append-le, take-append-drop}
 use Rattle.y2k_base.specs.declared.word.FileId.{FileId}
 use Rattle.y2k_base.specs.declared.word.Word.{Word}
 use Rattle.fixed_format.specs.declared.fault.LineKind.TheVariants as k
@@ -13,36 +13,19 @@ use Rattle.fixed_format.specs.declared.join.Tail.{Tail}
 use Rattle.fixed_format.specs.declared.columns.LineSort.{LineSort}
 use Rattle.fixed_format.specs.declared.columns.LineSort.TheVariants as s
 use Rattle.fixed_format.specs.declared.piece.Expected.{Expected}
+use Rattle.fixed_format.specs.declared.piece.Expected.TheVariants as e
 use Rattle.fixed_format.specs.declared.mode.Mode.{Mode}
 use Rattle.fixed_format.specs.Columns.{blanks, body, cells, line_sort, comment_goes_on}
 use Rattle.fixed_format.specs.Faults.{earlier}
 use Rattle.fixed_format.specs.Words.{faults_of, earliest}
 use Rattle.fixed_format.specs.Modes.{step, steps, open_mark, front_mode}
-use Rattle.fixed_format.specs.Reading.{with_chars, with_cells, with_spaces, with_line, with_fault, continued, read_from, read_all, nothing_read}
+use Rattle.fixed_format.specs.Reading.{with_chars, with_cells, with_mode, with_known_mode, with_spaces, empty_tail, with_line, with_fault, continued, read_from, read_all, nothing_read}
 use Rattle.fixed_format.specs.Joined.{Row, rows, placed, Joined, joined_by, continued_by, joint, joint_of, words_before, words_before_joint, row_words, faults_before, faults_before_joint, row_faults, line_fault, column_of, words_in, faults_in}
-use Rattle.fixed_format.proofs.PartLaws.{earliest_option}
-use Rattle.fixed_format.proofs.ModeLaws.{mode_of, mode_tells}
+use Rattle.fixed_format.proofs.PartLaws.{earliest_option, earliest_append}
+use Rattle.fixed_format.proofs.ModeLaws.{mode_tells}
 
 abbrev seen : Reading → Joined
 seen r = record { expected = r.expected; is_begun = r.is_begun; chars = r.tail.chars; line = r.line; column = r.column }
-
--- the mode is that of the characters
-abbrev Told : Expected → Tail → Type 0
-Told e tail = tail.mode ≡ mode_of (front_mode e) tail.chars
-
-mode_more : (mode : Mode) (chars : List Placed) (c : Placed) → mode_of mode (chars ++ c ∷ []) ≡ step (mode_of mode chars) c.byte
-mode_more mode [] c = refl
-mode_more mode (d ∷ ds) c = mode_more (step mode d.byte) ds c
-
-mode_cells : (mode : Mode) (chars : List Placed) (bs : List ℕ) (line column : ℕ) → steps (mode_of mode chars) bs ≡ mode_of mode (with_chars chars bs line column)
-mode_cells mode chars [] line column = refl
-mode_cells mode chars (b ∷ bs) line column =
-    let c : Placed = record { byte = b; line = line; column = column } in
-    ap (λ (m : Mode). steps m bs) (sym (mode_more mode chars c))
-    ∙ mode_cells mode (chars ++ c ∷ []) bs line (column + 1)
-
-told_cells : (e : Expected) (tail : Tail) (bs : List ℕ) (line column : ℕ) → Told e tail → Told e (with_cells tail bs line column)
-told_cells e tail bs line column told = ap (λ (m : Mode). steps m bs) told ∙ mode_cells (front_mode e) tail.chars bs line column
 
 chars_cells : (chars : List Placed) (bs : List ℕ) (line column : ℕ) → with_chars chars bs line column ≡ chars ++ placed line column bs
 chars_cells chars [] line column = sym (append-nil chars)
@@ -51,18 +34,44 @@ chars_cells chars (b ∷ bs) line column =
     chars_cells (chars ++ c ∷ []) bs line (column + 1)
     ∙ append_assoc chars (c ∷ []) (placed line (column + 1) bs)
 
+-- the mode is that of the characters for which it is known
+abbrev Told : Expected → Tail → Type 0
+Told e tail = (tail.mode ≡ steps (front_mode e) (take tail.known tail.chars)) × (tail.known ≤ length tail.chars)
+
+steps_append : (mode : Mode) (xs ys : List Placed) → steps mode (xs ++ ys) ≡ steps (steps mode xs) ys
+steps_append mode [] ys = refl
+steps_append mode (x ∷ xs) ys = steps_append (step mode x.byte) xs ys
+
+mode_whole : (e : Expected) (tail : Tail) → Told e tail → (with_mode tail).mode ≡ steps (front_mode e) tail.chars
+mode_whole e tail told =
+    ap (λ (m : Mode). steps m (drop tail.known tail.chars)) told.0
+    ∙ sym (steps_append (front_mode e) (take tail.known tail.chars) (drop tail.known tail.chars))
+    ∙ ap (λ (cs : List Placed). steps (front_mode e) cs) (take-append-drop tail.known tail.chars)
+
+told_mode : (e : Expected) (tail : Tail) → Told e tail → Told e (with_mode tail)
+told_mode e tail told =
+    let within : length tail.chars ≤ length tail.chars = omega arith in
+    (mode_whole e tail told ∙ sym (ap (λ (cs : List Placed). steps (front_mode e) cs) (take_all (length tail.chars) tail.chars within)), within)
+
+told_cells : (e : Expected) (tail : Tail) (bs : List ℕ) (line column : ℕ) → Told e tail → Told e (with_cells tail bs line column)
+told_cells e tail bs line column told =
+    let more : List Placed = placed line column bs in
+    let longer : tail.chars ++ more ≡ with_chars tail.chars bs line column = sym (chars_cells tail.chars bs line column) in
+    let within : tail.known ≤ length (tail.chars ++ more) = omega (arith, told.1, length-append tail.chars more) in
+    subst (λ (cs : List Placed). (tail.mode ≡ steps (front_mode e) (take tail.known cs)) × (tail.known ≤ length cs)) longer
+    (told.0 ∙ ap (λ (cs : List Placed). steps (front_mode e) cs) (sym (take-append-le tail.known tail.chars more told.1)), within)
+
+told_empty : (e : Expected) → Told e (empty_tail e)
+told_empty e = (refl, omega arith)
+
 -- how a continuation goes on, by the mode
 abbrev joint_read : Reading → List ℕ → Joint
-joint_read r cs = joint_of r.is_begun (open_mark r.tail.mode) cs
+joint_read r cs = joint_of r.is_begun (open_mark (with_mode r.tail).mode) cs
 
 joint_told : (r : Reading) (cs : List ℕ) → Told r.expected r.tail → joint_read r cs ≡ joint (seen r) cs
 joint_told r cs told =
     ap (λ (mark : Option ℕ). joint_of r.is_begun mark cs)
-    (ap (λ (m : Mode). open_mark m) told ∙ mode_tells r.expected r.tail.chars)
-
-earliest_append : (known : Option Fault) (xs ys : List Fault) → earliest known (xs ++ ys) ≡ earliest (earliest known xs) ys
-earliest_append known [] ys = refl
-earliest_append known (x ∷ xs) ys = earliest_append (earlier known (Some x)) xs ys
+    (ap (λ (m : Mode). open_mark m) (mode_whole r.expected r.tail told) ∙ mode_tells r.expected r.tail.chars)
 
 joint_words : (t : Joint) (file : FileId) (r : Reading) (m : ℕ) (cs : List ℕ) → (continued t file r m cs).words ≡ r.words ++ words_before_joint file t (seen r)
 joint_words j.Bad file r m cs = refl
@@ -83,7 +92,7 @@ joint_seen j.AfterText file r m cs =
     ap (λ (chars : List Placed). with_these (seen r) chars m cs) (chars_cells r.tail.chars (drop (blanks cs) cs) m (column_of (blanks cs)))
 
 joint_mode : (t : Joint) (file : FileId) (r : Reading) (m : ℕ) (cs : List ℕ) → Told r.expected r.tail → Told (continued t file r m cs).expected (continued t file r m cs).tail
-joint_mode j.Bad file r m cs told = refl
+joint_mode j.Bad file r m cs told = told_empty (continued j.Bad file r m cs).expected
 joint_mode j.InLiteral file r m cs told =
     told_cells r.expected (with_spaces r.tail r.line r.column) (drop (blanks cs + 1) cs) m (column_of (blanks cs + 1)) (told_cells r.expected r.tail (replicate (73 - r.column) 32) r.line r.column told)
 joint_mode j.AfterText file r m cs told = told_cells r.expected r.tail (drop (blanks cs) cs) m (column_of (blanks cs)) told
@@ -97,7 +106,7 @@ line_words : (sort : LineSort) (file : FileId) (r : Reading) (m : ℕ) (line : L
     → (with_line file r sort m line).words ≡ r.words ++ words_before file (seen r) sort line
 line_words s.Plain file r m line told = refl
 line_words s.Continuation file r m line told =
-    joint_words (joint_read r (cells (body line))) file r m (cells (body line))
+    joint_words (joint_read r (cells (body line))) file (with_known_mode r) m (cells (body line))
     ∙ ap (λ (t : Joint). r.words ++ words_before_joint file t (seen r)) (joint_told r (cells (body line)) told)
 line_words s.Comment file r m line told = sym (append-nil r.words)
 line_words s.Inner file r m line told = sym (append-nil r.words)
@@ -108,7 +117,7 @@ line_seen : (sort : LineSort) (file : FileId) (r : Reading) (m : ℕ) (line : Li
 line_seen s.Plain file r m line told =
     ap (λ (chars : List Placed). with_these (seen (with_line file r s.Plain m line)) chars m (cells (body line))) (chars_cells [] (cells (body line)) m 8)
 line_seen s.Continuation file r m line told =
-    joint_seen (joint_read r (cells (body line))) file r m (cells (body line))
+    joint_seen (joint_read r (cells (body line))) file (with_known_mode r) m (cells (body line))
     ∙ ap (λ (t : Joint). continued_by t (seen r) m (cells (body line))) (joint_told r (cells (body line)) told)
 line_seen s.Comment file r m line told = refl
 line_seen s.Inner file r m line told = refl
@@ -117,8 +126,9 @@ line_seen s.Opening file r m line told = refl
 line_mode : (sort : LineSort) (file : FileId) (r : Reading) (m : ℕ) (line : List ℕ) → Told r.expected r.tail
     → Told (with_line file r sort m line).expected (with_line file r sort m line).tail
 line_mode s.Plain file r m line told =
-    mode_cells (front_mode (with_line file r s.Plain m line).expected) [] (cells (body line)) m 8
-line_mode s.Continuation file r m line told = joint_mode (joint_read r (cells (body line))) file r m (cells (body line)) told
+    let e : Expected = (with_line file r s.Plain m line).expected in
+    told_cells e (empty_tail e) (cells (body line)) m 8 (told_empty e)
+line_mode s.Continuation file r m line told = joint_mode (joint_read r (cells (body line))) file (with_known_mode r) m (cells (body line)) (told_mode r.expected r.tail told)
 line_mode s.Comment file r m line told = told
 line_mode s.Inner file r m line told = told
 line_mode s.Opening file r m line told = told
@@ -127,7 +137,7 @@ line_faults : (sort : LineSort) (file : FileId) (r : Reading) (m : ℕ) (line : 
     → (with_line file r sort m line).fault ≡ earliest r.fault (faults_before (seen r) sort m line)
 line_faults s.Plain file r m line told = refl
 line_faults s.Continuation file r m line told =
-    joint_fault (joint_read r (cells (body line))) file r m (cells (body line))
+    joint_fault (joint_read r (cells (body line))) file (with_known_mode r) m (cells (body line))
     ∙ ap (λ (t : Joint). earliest r.fault (faults_before_joint t (seen r) m)) (joint_told r (cells (body line)) told)
 line_faults s.Comment file r m line told = refl
 line_faults s.Inner file r m line told = refl
@@ -164,7 +174,7 @@ reads_row_faults file r in_comment n (line ∷ rest) told =
     ∙ sym (earliest_option r.fault own (ended ++ later))
 
 pub reads_text_words : (file : FileId) (lines : List (List ℕ)) → (read_all file lines).words ≡ words_in file lines
-reads_text_words file lines = reads_row_words file nothing_read false 0 lines refl
+reads_text_words file lines = reads_row_words file nothing_read false 0 lines (told_empty e.Any)
 
 pub reads_text_fault : (file : FileId) (lines : List (List ℕ)) → (read_all file lines).fault ≡ earliest None (faults_in lines)
-reads_text_fault file lines = reads_row_faults file nothing_read false 0 lines refl
+reads_text_fault file lines = reads_row_faults file nothing_read false 0 lines (told_empty e.Any)

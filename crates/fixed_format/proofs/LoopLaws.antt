@@ -1,38 +1,39 @@
 -- What the loops of the code count is what the definitions say.
-use Rattle.std.proofs.Common.{◌≡◌, ℕ, suc, ◌+◌, ◌-◌, ◌≤◌, ◌==◌, Bool, true, false, not, ◌&&◌, if◌then◌else◌, List, [], ◌∷◌, ◌++◌, length, length-drop, take, drop, Option, Some, None, option_map, refl, ap, sym, ◌∙◌, arith}
-use Rattle.std.proofs.lemmas.List.{append-nil, append_assoc, take_all}
+use Rattle.std.proofs.Common.{◌≡◌, ℕ, suc, ◌+◌, ◌-◌, ◌≤◌, ◌==◌, Bool, true, false, not, ◌&&◌, if◌then◌else◌, List, [], ◌∷◌, ◌++◌, length, length-drop, reverse, take, drop, Option, Some, None, option_map, refl, ap, sym, ◌∙◌, arith}
+use Rattle.std.proofs.lemmas.List.{append-nil, append_assoc, take_all, reverse-append, length-reverse}
 use Rattle.fixed_format.specs.declared.runs.Placed.{Placed}
 use Rattle.fixed_format.specs.Columns.{before_trimmed, trimmed}
 use Rattle.fixed_format.specs.Runs.{is_digit_char, digits_length, fraction_length, number_length, closing, content}
-use Rattle.fixed_format.specs.Loops.{text_end, closing_from, content_count_from, put, content_from}
+use Rattle.fixed_format.specs.Loops.{without_spaces, closing_from, content_count_from, put, content_from}
 
-abbrev end_from : ℕ → ℕ → List ℕ → ℕ
-end_from e n [] = e
-end_from e n (c ∷ cs) = n + length (c ∷ cs)
+abbrev pushed : ℕ → List ℕ → List ℕ
+pushed b [] = if b == 32 then [] else b ∷ []
+pushed b (c ∷ cs) = c ∷ (cs ++ b ∷ [])
 
-end_before : (e n b : ℕ) (t : List ℕ) → end_from (if b == 32 then e else n + 1) (n + 1) t ≡ end_from e n (before_trimmed b t)
-end_before e n b [] = elim (b == 32) as (λ (x : Bool). (if x then e else n + 1) ≡ end_from e n (if x then [] else b ∷ [])) [ true ↦ refl | false ↦ omega arith ]
-end_before e n b (c ∷ cs) = omega arith
+without_pushed : (bs : List ℕ) (b : ℕ) → without_spaces (bs ++ b ∷ []) ≡ pushed b (without_spaces bs)
+without_pushed [] b = refl
+without_pushed (c ∷ cs) b =
+    elim (c == 32) as (λ (t : Bool). (if t then without_spaces (cs ++ b ∷ []) else c ∷ (cs ++ b ∷ [])) ≡ pushed b (if t then without_spaces cs else c ∷ cs))
+    [ true ↦ without_pushed cs b | false ↦ refl ]
 
-end_trimmed : (e n : ℕ) (bs : List ℕ) → text_end e n bs ≡ end_from e n (trimmed bs)
-end_trimmed e n [] = refl
-end_trimmed e n (b ∷ bs) = end_trimmed (if b == 32 then e else n + 1) (n + 1) bs ∙ end_before e n b (trimmed bs)
+before_some : (b : ℕ) (t : List ℕ) → 1 ≤ length t → before_trimmed b t ≡ b ∷ t
+before_some b [] h = absurd (omega (arith, h))
+before_some b (c ∷ cs) h = refl
 
-take_before : (b : ℕ) (bs t : List ℕ) → take (length t) bs ≡ t → take (length (before_trimmed b t)) (b ∷ bs) ≡ before_trimmed b t
-take_before b bs [] e =
-    elim (b == 32) as (λ (x : Bool). take (length {A = ℕ} (if x then [] else b ∷ [])) (b ∷ bs) ≡ (if x then [] else b ∷ [])) [ true ↦ refl | false ↦ refl ]
-take_before b bs (c ∷ cs) e = ap (λ (r : List ℕ). b ∷ r) e
+reverse_pushed : (b : ℕ) (t : List ℕ) → reverse (pushed b t) ≡ before_trimmed b (reverse t)
+reverse_pushed b [] =
+    elim (b == 32) as (λ (x : Bool). reverse {A = ℕ} (if x then [] else b ∷ []) ≡ (if x then [] else b ∷ [])) [ true ↦ refl | false ↦ refl ]
+reverse_pushed b (c ∷ cs) =
+    let some_cells : 1 ≤ length (reverse (c ∷ cs)) = omega (arith, length-reverse (c ∷ cs)) in
+    reverse-append (c ∷ cs) (b ∷ []) ∙ sym (before_some b (reverse (c ∷ cs)) some_cells)
 
-take_trimmed : (bs : List ℕ) → take (length (trimmed bs)) bs ≡ trimmed bs
-take_trimmed [] = refl
-take_trimmed (b ∷ bs) = take_before b bs (trimmed bs) (take_trimmed bs)
-
-end_of : (t : List ℕ) → end_from 0 0 t ≡ length t
-end_of [] = refl
-end_of (c ∷ cs) = omega arith
-
-pub take_end : (bs : List ℕ) → take (text_end 0 0 bs) bs ≡ trimmed bs
-take_end bs = ap (λ (n : ℕ). take n bs) (end_trimmed 0 0 bs ∙ end_of (trimmed bs)) ∙ take_trimmed bs
+pub trimmed_back : (bs : List ℕ) → reverse (without_spaces (reverse bs)) ≡ trimmed bs
+trimmed_back [] = refl
+trimmed_back (b ∷ bs) =
+    ap (λ (xs : List ℕ). reverse (without_spaces xs)) (reverse-append (b ∷ []) bs)
+    ∙ ap (λ (xs : List ℕ). reverse xs) (without_pushed (reverse bs) b)
+    ∙ reverse_pushed b (without_spaces (reverse bs))
+    ∙ ap (λ (t : List ℕ). before_trimmed b t) (trimmed_back bs)
 
 number_split : (cs : List Placed) → digits_length cs + fraction_length (drop (digits_length cs) cs) ≡ number_length cs
 number_split [] = refl

@@ -15,12 +15,8 @@ use Rattle.fixed_format.specs.Columns.{is_letter, is_number_byte, is_name_byte}
 use Rattle.fixed_format.specs.Runs.{first_byte, run_length, has_letter, is_run, digits_length, number_length, fraction_length, ends_picture, picture_length, closing}
 use Rattle.fixed_format.specs.Pieces.{of_sort, literal_until, is_quote, is_sign, is_mark, begins_number, begins_unsigned, mark_of_bytes, run_piece, plain_piece, expected_after}
 use Rattle.fixed_format.specs.Words.{Part, is_gap, is_open, pieces_of, open_literal}
-use Rattle.fixed_format.specs.Modes.{next_if, spelled, expected_behind_name, mark_step, any_step, picture_step, is_step, front_step, step, open_mark, front_mode}
+use Rattle.fixed_format.specs.Modes.{next_if, spelled, expected_behind_name, mark_step, any_step, picture_step, is_step, front_step, step, steps, open_mark, front_mode}
 use Rattle.fixed_format.proofs.PartLaws.{parts, parts_of}
-
-abbrev pub mode_of : Mode → List Placed → Mode
-mode_of mode [] = mode
-mode_of mode (c ∷ cs) = mode_of (step mode c.byte) cs
 
 -- the mark of the literal that is open behind so many characters of a piece
 abbrev O : ℕ → Expected → Bool → List Placed → Option ℕ
@@ -645,9 +641,9 @@ at_end m.Comparison = refl
 at_end (m.Literal mark) = refl
 at_end (m.Closed mark) = refl
 
-mode_resumes : (mode : Mode) (cs : List Placed) → open_mark (mode_of mode cs) ≡ resume mode cs
+mode_resumes : (mode : Mode) (cs : List Placed) → open_mark (steps mode cs) ≡ resume mode cs
 mode_resumes mode [] = sym (at_end mode)
 mode_resumes mode (c ∷ cs) = mode_resumes (step mode c.byte) cs ∙ sym (one_more mode c.byte c.line c.column cs)
 
-pub mode_tells : (e : Expected) (cs : List Placed) → open_mark (mode_of (front_mode e) cs) ≡ open_literal (pieces_of e cs)
+pub mode_tells : (e : Expected) (cs : List Placed) → open_mark (steps (front_mode e) cs) ≡ open_literal (pieces_of e cs)
 mode_tells e cs = mode_resumes (front_mode e) cs ∙ ap (λ (ps : List Part). open_literal ps) (parts_of e cs)

@@ -2,10 +2,10 @@
 use Rattle.std.specs.Prelude.{ℕ, ◌+◌, ◌-◌, Bool, not, ◌&&◌, ◌==◌, if◌then◌else◌, List, [], ◌∷◌, ◌++◌, Option, Some, None}
 use Rattle.fixed_format.specs.declared.runs.Placed.{Placed}
 
--- how many of n cells and the rest stand up to the last that is no space, where so many of the n do
-abbrev pub text_end : ℕ → ℕ → List ℕ → ℕ
-text_end end n [] = end
-text_end end n (b ∷ bs) = text_end (if b == 32 then end else n + 1) (n + 1) bs
+-- without the spaces that stand first
+abbrev pub without_spaces : List ℕ → List ℕ
+without_spaces [] = []
+without_spaces (b ∷ bs) = if b == 32 then without_spaces bs else b ∷ bs
 
 -- n and the characters before the closing mark; half is true right behind a mark that closes unless another follows
 abbrev pub closing_from : ℕ → Bool → ℕ → List Placed → Option ℕ

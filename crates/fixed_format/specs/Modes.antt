@@ -1,6 +1,7 @@
 -- What the code keeps of a text that may go on: where in its last piece it ends, and whether that is an open literal.
 use Rattle.std.specs.Prelude.{ℕ, Bool, true, false, ◌==◌, ◌||◌, if◌then◌else◌, List, [], ◌∷◌, Option, Some, None}
 use Rattle.std.specs.Char.{to_ascii_uppercase}
+use Rattle.fixed_format.specs.declared.runs.Placed.{Placed}
 use Rattle.fixed_format.specs.declared.piece.Expected.{Expected}
 use Rattle.fixed_format.specs.declared.piece.Expected.TheVariants as e
 use Rattle.fixed_format.specs.declared.mode.Mode.{Mode}
@@ -122,10 +123,10 @@ step m.Comparison b = comparison_step b
 step (m.Literal mark) b = literal_step mark b
 step (m.Closed mark) b = closed_step mark b
 
--- behind some bytes
-abbrev pub steps : Mode → List ℕ → Mode
+-- behind some characters
+abbrev pub steps : Mode → List Placed → Mode
 steps mode [] = mode
-steps mode (b ∷ bs) = steps (step mode b) bs
+steps mode (c ∷ cs) = steps (step mode c.byte) cs
 
 -- the mark of the literal that is open
 abbrev pub open_mark : Mode → Option ℕ

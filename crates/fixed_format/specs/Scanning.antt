@@ -1,23 +1,18 @@
--- How the code goes over a joined text, character by character. `proofs/` ties this to the pieces of `Words`.
-use Rattle.std.specs.Prelude.{suc, ◌-◌, Bool, true, false, ◌&&◌, ◌||◌, ◌==◌, nat_lt, if◌then◌else◌, List, [], ◌∷◌, ◌++◌, take, Option, Some, None}
+-- How the code goes over a joined text, piece by piece. `proofs/` ties this to the words and faults of `Words`.
+use Rattle.std.specs.Prelude.{Bool, true, false, ◌&&◌, ◌||◌, if◌then◌else◌, List, [], ◌∷◌, ◌++◌, Option, Some, None}
 use Rattle.y2k_base.specs.declared.word.FileId.{FileId}
 use Rattle.y2k_base.specs.declared.word.Word.{Word}
 use Rattle.y2k_base.specs.declared.word.WordKind.{WordKind}
 use Rattle.fixed_format.specs.declared.fault.Fault.{Fault}
 use Rattle.fixed_format.specs.declared.runs.Placed.{Placed}
-use Rattle.fixed_format.specs.declared.piece.Expected.{Expected}
 use Rattle.fixed_format.specs.declared.piece.Sort.{Sort}
 use Rattle.fixed_format.specs.declared.piece.Sort.TheVariants as s
 use Rattle.fixed_format.specs.declared.piece.Piece.{Piece}
-use Rattle.fixed_format.specs.declared.scan.Cursor.{Cursor}
+use Rattle.fixed_format.specs.declared.scan.Findings.{Findings}
 use Rattle.fixed_format.specs.Columns.{is_number_byte, is_name_byte}
-use Rattle.fixed_format.specs.Runs.{first_byte}
-use Rattle.fixed_format.specs.Pieces.{first_piece}
+use Rattle.fixed_format.specs.Runs.{first_byte, behind}
 use Rattle.fixed_format.specs.Faults.{earlier}
-use Rattle.fixed_format.specs.Words.{is_gap, is_literal, word_kind, word_text, bad_byte, front_fault}
-
-abbrev pub text_front : Expected → Cursor
-text_front expected = record { expected = expected; behind_gap = true; sort = s.Blank; left = 0; unlettered = false }
+use Rattle.fixed_format.specs.Words.{Part, is_gap, is_literal, word_kind, word_text, word_of, bad_byte, front_fault, part_faults, earliest, pieces_of, expected_behind, words_of, faults_of}
 
 -- a number that begins with a digit stands first
 abbrev pub begins_digits : Sort → List Placed → Bool
@@ -30,38 +25,39 @@ begins_digits s.Picture cs = false
 begins_digits s.Mark cs = false
 begins_digits s.Foreign cs = false
 
-abbrev pub reached : Bool → Bool → Piece → List Placed → Cursor
-reached behind_gap unlettered piece cs = record {
-  expected = piece.after;
-  behind_gap = behind_gap;
-  sort = piece.sort;
-  left = piece.further;
-  unlettered = unlettered || begins_digits piece.sort cs;
-}
+-- these are letters, digits and hyphens
+abbrev pub are_run : List Placed → Bool
+are_run [] = true
+are_run (c ∷ cs) = if is_name_byte c.byte then are_run cs else false
 
--- at the character that stands first: how many characters of its piece follow it
-abbrev pub reach : Cursor → List Placed → Cursor
-reach cursor cs =
-    if nat_lt 0 cursor.left then record { expected = cursor.expected; behind_gap = cursor.behind_gap; sort = cursor.sort; left = cursor.left - 1; unlettered = cursor.unlettered }
-    else reached cursor.behind_gap cursor.unlettered (first_piece cursor.expected cursor.behind_gap cs) cs
+-- the run behind a piece of these characters is known to have no letter, where the run that stands first is or not
+abbrev pub stays_unlettered : Bool → Piece → List Placed → List Placed → Bool
+stays_unlettered unlettered piece rest own = (unlettered || begins_digits piece.sort rest) && are_run own
 
-abbrev pub pass : Cursor → Placed → Cursor
-pass cursor c = record { expected = cursor.expected; behind_gap = is_gap c.byte; sort = cursor.sort; left = cursor.left; unlettered = cursor.unlettered && is_name_byte c.byte }
+-- this character is a gap
+abbrev pub gap_at : Option Placed → Bool
+gap_at None = false
+gap_at (Some c) = is_gap c.byte
 
-abbrev pub text_end : Cursor → List Placed → Cursor
-text_end cursor [] = cursor
-text_end cursor (c ∷ cs) = text_end (pass (reach cursor (c ∷ cs)) c) cs
+abbrev pub may_be_bad : Sort → Bool
+may_be_bad s.Literal = true
+may_be_bad s.OpenLiteral = true
+may_be_bad s.Picture = true
+may_be_bad s.Foreign = true
+may_be_bad s.Blank = false
+may_be_bad s.Name = false
+may_be_bad s.Number = false
+may_be_bad s.Mark = false
 
-abbrev pub char_fault : Bool → Cursor → List Placed → Bool → Option Fault
-char_fault begins here [] is_cut = None
-char_fault begins here (c ∷ cs) is_cut =
-    if begins then front_fault here.sort (take (suc here.left) (c ∷ cs)) is_cut else bad_byte here.sort c
+-- the first bad byte and one known before
+abbrev pub first_bad : Option Fault → Sort → List Placed → Option Fault
+first_bad known sort [] = known
+first_bad known sort (c ∷ cs) = first_bad (earlier known (bad_byte sort c)) sort cs
 
--- the first fault of a text and one known before
-abbrev pub text_fault : Cursor → List Placed → Bool → Option Fault → Option Fault
-text_fault cursor [] is_cut known = known
-text_fault cursor (c ∷ cs) is_cut known =
-    text_fault (pass (reach cursor (c ∷ cs)) c) cs is_cut (earlier known (char_fault (cursor.left == 0) (reach cursor (c ∷ cs)) (c ∷ cs) is_cut))
+-- the first fault of a piece and one known before
+abbrev pub part_fault : Option Fault → Sort → List Placed → Bool → Option Fault
+part_fault known sort cs is_cut =
+    if may_be_bad sort then first_bad (earlier known (front_fault sort cs is_cut)) sort (behind cs) else earlier known (front_fault sort cs is_cut)
 
 abbrev pub with_kind : FileId → List Word → WordKind → Bool → List Placed → List Word
 with_kind file words kind of_literal [] = words
@@ -75,10 +71,29 @@ with_kind_of file words (Some kind) of_literal cs = with_kind file words kind of
 abbrev pub with_word : FileId → List Word → Sort → List Placed → List Word
 with_word file words sort cs = with_kind_of file words (word_kind sort) (is_literal sort) cs
 
-abbrev pub with_begun : FileId → List Word → Bool → Cursor → List Placed → List Word
-with_begun file words begins here cs = if begins then with_word file words here.sort (take (suc here.left) cs) else words
+abbrev pub with_piece : FileId → Findings → Piece → List Placed → Bool → Findings
+with_piece file found piece cs is_cut = record {
+  words = with_word file found.words piece.sort cs;
+  fault = part_fault found.fault piece.sort cs is_cut;
+  expected = piece.after;
+}
 
-abbrev pub with_words : FileId → List Word → Cursor → List Placed → List Word
-with_words file words cursor [] = words
-with_words file words cursor (c ∷ cs) =
-    with_words file (with_begun file words (cursor.left == 0) (reach cursor (c ∷ cs)) (c ∷ cs)) (pass (reach cursor (c ∷ cs)) c) cs
+-- with the word and the faults of a piece
+abbrev pub with_part : FileId → Bool → Findings → Part → Findings
+with_part file is_cut found part = record {
+  words = found.words ++ word_of file part;
+  fault = earliest found.fault (part_faults is_cut part);
+  expected = part.after;
+}
+
+abbrev pub read_parts : FileId → Bool → Findings → List Part → Findings
+read_parts file is_cut found [] = found
+read_parts file is_cut found (p ∷ ps) = read_parts file is_cut (with_part file is_cut found p) ps
+
+-- with the words and the faults of a joined text, and what is expected behind it
+abbrev pub read_text : FileId → Bool → Findings → List Placed → Findings
+read_text file is_cut found cs = record {
+  words = found.words ++ words_of file found.expected cs;
+  fault = earliest found.fault (faults_of is_cut found.expected cs);
+  expected = expected_behind found.expected (pieces_of found.expected cs);
+}

@@ -1,11 +1,11 @@
-//! Whether a literal is open at the end of a text that may go on, found character by character.
+//! Whether a literal is open at the end of a text that goes on, found character by character.
 
 ghost use Rattle.std.specs.Prelude.{◌≡◌};
 ghost use Rattle.fixed_format.specs.Modes as spec;
 
 use crate::columns::{is_digit, is_letter, is_name_byte};
 use crate::piece::{Expected, is_quote, is_sign};
-use crate::runs::is_gap;
+use crate::runs::{Placed, is_gap};
 
 /// How far the letters of a name so far spell PIC or PICTURE.
 #[derive(Clone, Copy)]
@@ -326,13 +326,13 @@ fn step(mode: Mode, byte: u8) -> Mode
 }
 
 /// Behind more characters.
-pub fn steps(mode: Mode, bytes: &[u8]) -> Mode
-    ensures { result ≡ spec.steps mode bytes.now }
+pub fn steps(mode: Mode, chars: &[Placed]) -> Mode
+    ensures { result ≡ spec.steps mode chars.now }
 {
-    let mut rest = bytes;
+    let mut rest = chars;
     let mut mode = mode;
     while let [first, after @ ..] = rest {
-        mode = step(mode, *first);
+        mode = step(mode, first.byte);
         rest = after;
     }
     mode
