@@ -8,6 +8,7 @@ pub mod Kinds
 pub mod Longest
 pub mod Places
 pub mod Reads
+pub mod Relations
 pub mod Symbols
 pub mod Table
 pub mod Text

@@ -8,6 +8,7 @@ mod expr;
 mod kind;
 mod place;
 mod read;
+mod relation;
 mod symbol;
 mod table;
 #[cfg(test)]
