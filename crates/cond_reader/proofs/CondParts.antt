@@ -63,6 +63,28 @@ sign-operates s.Negative z h a = cc
 sign-operates s.Zero z h a = cc
 sign-operates _ z h a = cc
 
+class-operates : (x : Symbol) (b : Bool) → class x ≡ Some b → operates x ≡ true → ⊥
+class-operates s.Numeric b h a = cc
+class-operates s.Alphabetic b h a = cc
+class-operates _ b h a = cc
+
+sign-class : (x : Symbol) (z : ℤ) (b : Bool) → sign x ≡ Some z → class x ≡ Some b → ⊥
+sign-class s.Positive z b h a = cc
+sign-class s.Negative z b h a = cc
+sign-class s.Zero z b h a = cc
+sign-class _ z b h a = cc
+
+operates-begins : (x : Symbol) → operates x ≡ true → begins x ≡ true → ⊥
+operates-begins s.EqualSign a b = cc
+operates-begins s.LessSign a b = cc
+operates-begins s.GreaterSign a b = cc
+operates-begins s.AtMost a b = cc
+operates-begins s.AtLeast a b = cc
+operates-begins s.Equal a b = cc
+operates-begins s.Greater a b = cc
+operates-begins s.Less a b = cc
+operates-begins _ a b = cc
+
 module _ (t : Text) where
   abbrev size : ℕ
   size = length t.kinds
@@ -440,6 +462,33 @@ module _ (t : Text) where
       let same : w.middle ≡ v.middle = ap (λ q. q.1) both in
       sign-operates (symbol t v.middle) v.second meant (ap (λ (m : ℕ). operates (symbol t m)) (sym same) ∙ operator-first w.middle j w.second w.other)
 
+  pub no-rel-and-class : (i j k : ℕ) (x : Comparison) (c : Bool × Bool) → Rel t i j x → Phrase t class i k c → ⊥
+  no-rel-and-class i j k x c w v =
+      let meant = v.other.means in
+      let lead = lead-read i v.middle v.first v.one (meant-not class class-says refl refl v.middle v.second s.Is refl meant) (meant-not class class-says refl refl v.middle v.second s.Not refl meant) in
+      let both : ◌≡◌ {A = Bool × ℕ} (w.first, w.middle) (v.first, v.middle) = sym (rel-lead i j x w) ∙ lead in
+      let same : w.middle ≡ v.middle = ap (λ q. q.1) both in
+      class-operates (symbol t v.middle) v.second meant (ap (λ (m : ℕ). operates (symbol t m)) (sym same) ∙ operator-first w.middle j w.second w.other)
+
+  pub no-sign-and-class : (i j k : ℕ) (z : Bool × ℤ) (c : Bool × Bool) → Phrase t sign i j z → Phrase t class i k c → ⊥
+  no-sign-and-class i j k z c w v =
+      let signs = w.other.means in
+      let classes = v.other.means in
+      let first_lead = lead-read i w.middle w.first w.one (meant-not sign sign-says refl refl w.middle w.second s.Is refl signs) (meant-not sign sign-says refl refl w.middle w.second s.Not refl signs) in
+      let second_lead = lead-read i v.middle v.first v.one (meant-not class class-says refl refl v.middle v.second s.Is refl classes) (meant-not class class-says refl refl v.middle v.second s.Not refl classes) in
+      let both : ◌≡◌ {A = Bool × ℕ} (w.first, w.middle) (v.first, v.middle) = sym first_lead ∙ second_lead in
+      let same : w.middle ≡ v.middle = ap (λ q. q.1) both in
+      sign-class (symbol t v.middle) w.second v.second (ap (λ (m : ℕ). sign (symbol t m)) (sym same) ∙ signs) classes
+
+  -- after a NOT an operator follows at once
+  pub rel-after-not : (i j : ℕ) (x : Comparison) → Rel t i j x → symbol t i ≡ s.Not → begins (symbol t (i + 1)) ≡ true → ⊥
+  rel-after-not i j x w at start =
+      let no_is : symbol t i ≡ s.Is → ⊥ = λ is. let both : s.Not ≡ s.Is = sym at ∙ is in cc in
+      let here : not_at t (after t s.Is i) ≡ (true, i + 1) = ap (not_at t) (after-not s.Is i no_is) ∙ not-by i true (sees-is t s.Not i at) in
+      let both : ◌≡◌ {A = Bool × ℕ} (w.first, w.middle) (true, i + 1) = sym (rel-lead i j x w) ∙ here in
+      let same : w.middle ≡ i + 1 = ap (λ q. q.1) both in
+      operates-begins (symbol t (i + 1)) (ap (λ (m : ℕ). operates (symbol t m)) (sym same) ∙ operator-first w.middle j w.second w.other) start
+
   module _ (level : ℕ) where
     abbrev relation_reader : Reader Predicate
     relation_reader i = and_then (comparison t i) (λ c m. and_then (expr t level m) (λ right j. Some (with_right i j c right, j)))
@@ -472,8 +521,8 @@ module _ (t : Text) where
     compared-first : (i j : ℕ) (x : Comparison) → Rel t i j x → (c : Option (Comparison × ℕ)) → comparison t i ≡ c → c ≡ None → ⊥
     compared-first i j x w c e none =
         elim (comparison-best i j x w) [
-          | inl read ↦ let both : Some (x, j) ≡ None = sym read ∙ e ∙ none in cc
-          | inr g ↦ let both : Some (g.1.tree, g.1.end) ≡ None = sym g.1.read ∙ e ∙ none in cc
+          | inl read ↦ let both : ◌≡◌ {A = Option (Comparison × ℕ)} (Some (x, j)) None = sym read ∙ e ∙ none in cc
+          | inr g ↦ let both : ◌≡◌ {A = Option (Comparison × ℕ)} (Some (g.1.tree, g.1.end)) None = sym g.1.read ∙ e ∙ none in cc
         ]
 
     predicate-best : (i j : ℕ) (p : Predicate) → IsPredicate t level i j p → (predicate_at t level i ≡ Some (p, j)) ⊎ (Extends t j × Longer (predicate_at t level) i j)

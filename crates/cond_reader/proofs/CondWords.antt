@@ -180,12 +180,12 @@ figure-begins s.LowValue byte h = refl
 figure-begins s.Quote byte h = refl
 figure-begins _ byte h = cc
 
-product-extends : (x : Symbol) (p : Operator) → product_operator x ≡ Some p → extends x ≡ true
+pub product-extends : (x : Symbol) (p : Operator) → product_operator x ≡ Some p → extends x ≡ true
 product-extends s.Star p h = refl
 product-extends s.Slash p h = refl
 product-extends _ p h = cc
 
-sum-extends : (x : Symbol) (p : Operator) → sum_operator x ≡ Some p → extends x ≡ true
+pub sum-extends : (x : Symbol) (p : Operator) → sum_operator x ≡ Some p → extends x ≡ true
 sum-extends s.Plus p h = refl
 sum-extends s.Minus p h = refl
 sum-extends _ p h = cc

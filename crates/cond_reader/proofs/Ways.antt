@@ -26,9 +26,34 @@ regrouped Q agrees to from = record {
   moves = λ i j x w. agrees.moves i j x (from i j x w);
 }
 
--- what is read begins with such a word
-pub longer_by : {A : Type 0} {p q : Reader A} {i j : ℕ} → Longer p i j → ((x : A) (k : ℕ) → p i ≡ Some (x, k) → q i ≡ Some (x, k)) → Longer q i j
-longer_by l same = record { tree = l.tree; end = l.end; read = same l.tree l.end l.read; beyond = l.beyond }
+-- what is read, as a whole of another kind
+module _ {A B : Type 0} (size : ℕ) (p : Reader A) (P : ℕ → ℕ → A → Type 0) (go : ℕ → Type 0) (ps : Agrees size p P go) (make : ℕ → ℕ → A → B) where
+  abbrev pub made : Reader B
+  made i = and_then (p i) (λ a j. Some (make i j a, j))
+
+  pub record Made (i j : ℕ) (b : B) : Type 0 where
+    pub part : A
+    pub reads : P i j part
+    pub is : b ≡ make i j part
+
+  made-read : (i j : ℕ) (a : A) → p i ≡ Some (a, j) → made i ≡ Some (make i j a, j)
+  made-read i j a e = ap (λ r. and_then r (λ x k. Some (make i k x, k))) e
+
+  made-sound : (i j : ℕ) (b : B) → made i ≡ Some (b, j) → Made i j b
+  made-sound i j b h =
+      let step = then_some (p i) (λ a k. Some (make i k a, k)) (b, j) h in
+      let same = found (make i step.end step.part) b step.end j step.rest in
+      record { part = step.part; reads = ps.sound i j step.part (step.read ∙ ap (λ k. Some (step.part, k)) same.1); is = sym same.0 ∙ ap (λ k. make i k step.part) same.1 }
+
+  made-best : (i j : ℕ) (b : B) → Made i j b → (made i ≡ Some (b, j)) ⊎ (go j × Longer made i j)
+  made-best i j b w =
+      elim (ps.best i j w.part w.reads) [
+        | inl e ↦ inl (made-read i j w.part e ∙ ap (λ y. Some (y, j)) (sym w.is))
+        | inr g ↦ inr (g.0, record { tree = make i g.1.end g.1.tree; end = g.1.end; read = made-read i g.1.end g.1.tree g.1.read; beyond = g.1.beyond })
+      ]
+
+  pub made-agrees : Agrees size made Made go
+  made-agrees = record { sound = made-sound; best = made-best; moves = λ i j b w. ps.moves i j w.part w.reads }
 
 module _ {A B C : Type 0} (size : ℕ) (p : Reader A) (P : ℕ → ℕ → A → Type 0) (goP : ℕ → Type 0) (ps : Agrees size p P goP)
     (q : Reader B) (Q : ℕ → ℕ → B → Type 0) (goQ : ℕ → Type 0) (qs : Agrees size q Q goQ)
