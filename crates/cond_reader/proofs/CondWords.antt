@@ -257,7 +257,7 @@ module _ (t : Text) where
       pub tree : Expr
       pub within : Parenthesized t (IsOperand t) level (Inside t (IsOperand t) level) i end tree
 
-    operand-not-open : (i j : ℕ) (x : Operand) → IsOperand t level i j x → symbol t i ≡ s.Open → ⊥
+    pub operand-not-open : (i j : ℕ) (x : Operand) → IsOperand t level i j x → symbol t i ≡ s.Open → ⊥
     operand-not-open i j _ (of_place w) at = let both : s.Name ≡ s.Open = sym w.names.one.word.kind_is ∙ at in cc
     operand-not-open i j _ (of_number word value) at = let both : s.Number ≡ s.Open = sym word.kind_is ∙ at in cc
     operand-not-open i j _ (of_literal word) at = let both : s.Literal ≡ s.Open = sym word.kind_is ∙ at in cc

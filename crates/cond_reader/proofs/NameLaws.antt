@@ -1,5 +1,5 @@
 -- Condition-names, and expressions that are nothing else.
-use Rattle.std.proofs.Common.{◌≡◌, ℕ, ◌+◌, Bool, true, false, ◌<◌, ◌≤◌, ◌⊎◌, inl, inr, List, [], Option, Some, None, length, refl, ap, sym, subst, ◌∙◌, arith, if◌then◌else◌}
+use Rattle.std.proofs.Common.{◌≡◌, ℕ, zero, suc, ◌+◌, Bool, true, false, ◌<◌, ◌≤◌, ◌⊎◌, inl, inr, List, [], Option, Some, None, length, refl, ap, sym, subst, ◌∙◌, arith, if◌then◌else◌}
 use Rattle.std.specs.Option.{option_map_or}
 use Rattle.cobol_syntax.specs.declared.place.Place.{Place}
 use Rattle.cobol_syntax.specs.declared.place.Sub.{Sub}
@@ -14,12 +14,12 @@ use Rattle.cond_reader.specs.declared.symbol.Symbol.TheVariants as s
 use Rattle.cond_reader.specs.declared.expr.Operator.{Operator}
 use Rattle.cond_reader.specs.declared.expr.Operator.TheVariants as op
 use Rattle.cond_reader.specs.declared.relation.Piece.{Piece}
-use Rattle.cond_reader.specs.Text.{Text, symbol, is_named}
+use Rattle.cond_reader.specs.Text.{Text, symbol, spelling, is_named}
 use Rattle.cond_reader.specs.Reads.{Reader, and_then}
 use Rattle.cond_reader.specs.Places.{place, names, subscripts, subscripted, plain_place}
-use Rattle.cond_reader.specs.Exprs.{expr, figure, joined, sum_operator, product_operator}
+use Rattle.cond_reader.specs.Exprs.{expr, figure, joined, operation, sum_operator, product_operator}
 use Rattle.cond_reader.specs.Relations.{asked}
-use Rattle.cond_reader.specs.Conds.{named, place_of, place_of_layer, is_named_place, is_name_alone}
+use Rattle.cond_reader.specs.Conds.{named, place_of, place_of_operand, place_of_layer, is_named_place, is_name_alone}
 use Rattle.cond_reader.specs.Grammar.{Names, MaybeSubscripts, IsPlace, Many}
 use Rattle.cond_reader.specs.Grammar.Many.{stop, more}
 use Rattle.cond_reader.specs.Grammar.MaybeSubscripts.{plain as without_subs, subscripts as with_subs}
@@ -32,7 +32,16 @@ use Rattle.cond_reader.specs.CondGrammar.{IsNamed}
 use Rattle.cond_reader.proofs.Best.{Agrees, Longer}
 use Rattle.cond_reader.proofs.Seen.{if_some, found, then_some}
 use Rattle.cond_reader.proofs.PlaceLaws.{names-agrees, subs_or, subs-or-by, subs-made, subs-grow, subscripts-read, subscripts-agree, place-agrees, PlaceGoes}
-use Rattle.cond_reader.proofs.CondWords.{extends, begins, other, Extends, Begins, Expression, expr-reads, place-reads, expr-begins, place-expr, product-extends, sum-extends}
+use Rattle.cond_reader.proofs.CondWords.{extends, begins, other, Extends, Begins, Expression, expr-reads, place-reads, expr-is, place-expr, operand-not-open}
+
+-- what stands before a closing parenthesis ends in one place alone
+inside-same : (t : Text) (level i j k : ℕ) (x y : Expr) → Inside t (IsOperand t) level i j x → Inside t (IsOperand t) level i k y → symbol t j ≡ s.Close → symbol t k ≡ s.Close → j ≡ k
+inside-same t zero i j k x y w v a b = absurd w
+inside-same t (suc level) i j k x y w v a b =
+    let first = expr-is t level i j x w (λ goes. other extends (symbol t j) s.Close goes refl a) in
+    let second = expr-is t level i k y v (λ goes. other extends (symbol t k) s.Close goes refl b) in
+    let same = found x y j k (sym first ∙ second) in
+    same.1
 
 module _ (t : Text) (level : ℕ) where
   abbrev size : ℕ
@@ -143,3 +152,159 @@ module _ (t : Text) (level : ℕ) where
   pub alone-is : (p : Place) → is_name_alone t (e.One (o.Place p)) ≡ is_named t p.at
   unfolding is_name_alone
   alone-is p = ap (is_named_place t) (place-of-one (o.Place p))
+
+  operation-no-place : (x : Operator) (a b : Expr) → place_of (operation x a b) ≡ None
+  unfolding place_of
+  operation-no-place op.Add a b = ap place_of_layer (e.outs-Add a b)
+  operation-no-place op.Sub a b = ap place_of_layer (e.outs-Sub a b)
+  operation-no-place op.Mul a b = ap place_of_layer (e.outs-Mul a b)
+  operation-no-place op.Div a b = ap place_of_layer (e.outs-Div a b)
+
+  minus-no-place : (x : Expr) → place_of (e.Minus x) ≡ None
+  unfolding place_of
+  minus-no-place x = ap place_of_layer (e.outs-Minus x)
+
+  operand-no-place : (x : Operand) → place_of_operand x ≡ None → place_of (e.One x) ≡ None
+  operand-no-place x none = place-of-one x ∙ none
+
+  alone-place : (x : Expr) → is_name_alone t x ≡ true → place_of x ≡ None → ⊥
+  unfolding is_name_alone
+  alone-place x is none = let both : true ≡ false = sym is ∙ ap (is_named_place t) none in cc
+
+  -- nothing follows, or what comes of it is no place
+  many-place : {Item : ℕ → ℕ → Operator × Expr → Type 0} {a c : Expr} {i j : ℕ} → Many Item joined a i j c → ((c ≡ a) × (j ≡ i)) ⊎ (place_of c ≡ None)
+  many-place stop = inl (refl, refl)
+  many-place {a = a} (more {b = b} one rest) =
+      elim (many-place rest) [
+        | inl same ↦ inr (ap place_of same.0 ∙ operation-no-place (b.0) a (b.1))
+        | inr none ↦ inr none
+      ]
+
+  many-operator : {operator : Symbol → Option Operator} {Part : ℕ → ℕ → Expr → Type 0} {a c : Expr} {i j : ℕ} → Many (After t operator Part) joined a i j c
+      → ((c ≡ a) × (j ≡ i)) ⊎ ((x : Operator) × (operator (symbol t i) ≡ Some x))
+  many-operator stop = inl (refl, refl)
+  many-operator (more {b = b} one rest) = inr (b.0, one.sign)
+
+  abbrev Atoms : ℕ → ℕ → Expr → Type 0
+  Atoms = Atom t (IsOperand t) level (Inside t (IsOperand t) level)
+
+  abbrev Factors : ℕ → ℕ → Expr → Type 0
+  Factors = Factor t (IsOperand t) level (Inside t (IsOperand t) level)
+
+  moved : (P : ℕ → ℕ → Expr → Type 0) (i j k : ℕ) (x y : Expr) → x ≡ y → j ≡ k → P i k y → P i j x
+  moved P i j k x y same end w = subst (λ (z : Expr). P i j z) (sym same) (subst (λ (n : ℕ). P i n y) (sym end) w)
+
+  -- an expression is one factor, or no place
+  sole : (i j : ℕ) (x : Expr) → Expression t level i j x → Factors i j x ⊎ (place_of x ≡ None)
+  sole i j x w =
+      elim (many-place w.others) [
+        | inr none ↦ inr none
+        | inl same ↦ elim (many-place w.one.others) [
+          | inr none ↦ inr (ap place_of same.0 ∙ none)
+          | inl again ↦ inl (moved Factors i j w.one.middle x w.one.first (same.0 ∙ again.0) (same.1 ∙ again.1) w.one.one)
+        ]
+      ]
+
+  abbrev Operated : ℕ → Type 0
+  Operated i = ((x : Operator) × (product_operator (symbol t i) ≡ Some x)) ⊎ ((x : Operator) × (sum_operator (symbol t i) ≡ Some x))
+
+  -- an expression is its first factor, or an operator follows that
+  first-factor : (i j : ℕ) (x : Expr) → (w : Expression t level i j x) → ((x ≡ w.one.first) × (j ≡ w.one.middle)) ⊎ Operated w.one.middle
+  first-factor i j x w =
+      elim (many-operator w.one.others) [
+        | inr is ↦ inr (inl is)
+        | inl same ↦ elim (many-operator w.others) [
+          | inl again ↦ inl (again.0 ∙ same.0, again.1 ∙ same.1)
+          | inr is ↦ inr (inr (is.0, ap (λ (m : ℕ). sum_operator (symbol t m)) (sym same.1) ∙ is.1))
+        ]
+      ]
+
+  goes-operated : (i : ℕ) → PlaceGoes t i → Operated i → ⊥
+  goes-operated i (inl at) (inl is) = let none : product_operator (symbol t i) ≡ None = ap product_operator at in let some = is.1 in cc
+  goes-operated i (inl at) (inr is) = let none : sum_operator (symbol t i) ≡ None = ap sum_operator at in let some = is.1 in cc
+  goes-operated i (inr at) (inl is) = let none : product_operator (symbol t i) ≡ None = ap product_operator at in let some = is.1 in cc
+  goes-operated i (inr at) (inr is) = let none : sum_operator (symbol t i) ≡ None = ap sum_operator at in let some = is.1 in cc
+
+  -- a place after which an operator stands is the longest there
+  operated-longest : (i k n : ℕ) (q p : Place) → IsPlace t level i k q → IsPlace t level i n p → Operated k → n ≤ k
+  operated-longest i k n q p w v is =
+      elim ((place-agrees t level).best i k q w) [
+        | inr g ↦ absurd (goes-operated k g.0 is)
+        | inl read ↦ elim ((place-agrees t level).best i n p v) [
+          | inl other_read ↦ let same = found q p k n (sym read ∙ other_read) in omega (arith, same.1)
+          | inr g ↦ let same = found q g.1.tree k g.1.end (sym read ∙ g.1.read) in omega (arith, same.1, g.1.beyond)
+        ]
+      ]
+
+  atom-not : (k : Symbol) → (k ≡ s.Name → ⊥) → (k ≡ s.Number → ⊥) → (k ≡ s.Literal → ⊥) → (k ≡ s.Open → ⊥) → figure k ≡ None → (i j : ℕ) (x : Expr) → Atoms i j x → symbol t i ≡ k → ⊥
+  atom-not k a b c d f i j _ (operand (of_place w)) at = a (sym at ∙ w.names.one.word.kind_is)
+  atom-not k a b c d f i j _ (operand (of_number word value)) at = b (sym at ∙ word.kind_is)
+  atom-not k a b c d f i j _ (operand (of_literal word)) at = c (sym at ∙ word.kind_is)
+  atom-not k a b c d f i j _ (operand (of_figure some next)) at = let none = ap figure at ∙ f in cc
+  atom-not k a b c d f i j x (parenthesized w) at = d (sym at ∙ w.open_mark.kind_is)
+
+  -- where an atom is a condition-name, whatever atom is read there and ends before it is one too, and nothing follows it
+  NameOrOperated : ℕ → ℕ → Expr → Type 0
+  NameOrOperated k n f = (k < n) → (is_name_alone t f ≡ true) × (Operated k → ⊥)
+
+  atom-prefix : (i k n : ℕ) (f l : Expr) → Atoms i k f → Atoms i n l → is_name_alone t l ≡ true → NameOrOperated k n f
+  unfolding NameOrOperated
+  atom-prefix i k n _ _ (operand (of_place {p = q} w)) (operand (of_place {p = p} v)) is =
+      λ lt. (
+        alone-is q ∙ ap (λ (r : Place). is_named t r.at) w.is ∙ sym (ap (λ (r : Place). is_named t r.at) v.is) ∙ sym (alone-is p) ∙ is,
+        λ operated. let far = operated-longest i k n q p w v operated in absurd (omega (arith, far, lt)),
+      )
+  atom-prefix i k n f _ w (operand (of_number {n = c} word value)) is = absurd (alone-place (e.One (o.Number (c.0) (c.1) i)) is (operand-no-place (o.Number (c.0) (c.1) i) refl))
+  atom-prefix i k n f _ w (operand (of_literal word)) is = absurd (alone-place (e.One (o.Text (spelling t i) i)) is (operand-no-place (o.Text (spelling t i) i) refl))
+  atom-prefix i k n f _ w (operand (of_figure {byte = byte} some next)) is = absurd (alone-place (e.One (o.Figure byte i)) is (operand-no-place (o.Figure byte i) refl))
+  atom-prefix i k n _ _ (operand (of_number word value)) (operand (of_place v)) is = let both : s.Number ≡ s.Name = sym word.kind_is ∙ v.names.one.word.kind_is in absurd (cc)
+  atom-prefix i k n _ _ (operand (of_literal word)) (operand (of_place v)) is = let both : s.Literal ≡ s.Name = sym word.kind_is ∙ v.names.one.word.kind_is in absurd (cc)
+  atom-prefix i k n _ _ (operand (of_figure some next)) (operand (of_place v)) is = let none = ap figure v.names.one.word.kind_is in absurd (cc)
+  atom-prefix i k n f _ (parenthesized w) (operand (of_place v)) is = let both : s.Open ≡ s.Name = sym w.open_mark.kind_is ∙ v.names.one.word.kind_is in absurd (cc)
+  atom-prefix i k n _ l (operand {o = x} w) (parenthesized v) is = absurd (operand-not-open t level i k x w v.open_mark.kind_is)
+  atom-prefix i k n f l (parenthesized w) (parenthesized v) is =
+      let start : w.start ≡ v.start = w.open_mark.next_is ∙ sym v.open_mark.next_is in
+      let same = inside-same t level v.start w.end v.end f l (subst (λ (m : ℕ). Inside t (IsOperand t) level m w.end f) start w.within) v.within w.close_mark.kind_is v.close_mark.kind_is in
+      λ lt. absurd (omega (arith, lt, same, w.close_mark.next_is, v.close_mark.next_is))
+
+  factor-prefix : (i k n : ℕ) (f l : Expr) → Factors i k f → Factors i n l → is_name_alone t l ≡ true → NameOrOperated k n f
+  factor-prefix i k n f _ w (minus {x = x} mark v) is = absurd (alone-place (e.Minus x) is (minus-no-place x))
+  factor-prefix i k n f l (plus {k = a} mark w) (plus {k = b} mark' v) is =
+      let start : a ≡ b = mark.next_is ∙ sym mark'.next_is in
+      atom-prefix b k n f l (subst (λ (m : ℕ). Atoms m k f) start w) v is
+  factor-prefix i k n _ l (minus mark w) (plus mark' v) is = let both : s.Minus ≡ s.Plus = sym mark.kind_is ∙ mark'.kind_is in absurd (cc)
+  factor-prefix i k n f l (plain w) (plus mark v) is = absurd (atom-not s.Plus (λ x. cc) (λ x. cc) (λ x. cc) (λ x. cc) refl i k f w mark.kind_is)
+  factor-prefix i k n f l (plus mark w) (plain v) is = absurd (atom-not s.Plus (λ x. cc) (λ x. cc) (λ x. cc) (λ x. cc) refl i n l v mark.kind_is)
+  factor-prefix i k n _ l (minus mark w) (plain v) is = absurd (atom-not s.Minus (λ x. cc) (λ x. cc) (λ x. cc) (λ x. cc) refl i n l v mark.kind_is)
+  factor-prefix i k n f l (plain w) (plain v) is = atom-prefix i k n f l w v is
+
+  many-onward : {operator : Symbol → Option Operator} {Part : ℕ → ℕ → Expr → Type 0} {a c : Expr} {i j : ℕ} → ((k m : ℕ) (x : Expr) → Part k m x → k < m)
+      → Many (After t operator Part) joined a i j c → i ≤ j
+  many-onward moves stop = omega arith
+  many-onward moves (more {i = i} {k = k} {b = b} one rest) = omega (arith, moves (i + 1) k (b.1) one.part, many-onward moves rest)
+
+  abbrev Terms : ℕ → ℕ → Expr → Type 0
+  Terms = Term t (IsOperand t) level (Inside t (IsOperand t) level)
+
+  term-onward : (i j : ℕ) (x : Expr) → Terms i j x → i < j
+  term-onward i j x w = ((expr-reads t level).moves i j x (record { middle = j; first = x; one = w; others = stop })).0
+
+  factor-onward : (i j : ℕ) (x : Expr) → Factors i j x → i < j
+  factor-onward i j x w = term-onward i j x (record { middle = j; first = x; one = w; others = stop })
+
+  factor-ends : (i j : ℕ) (x : Expr) → (w : Expression t level i j x) → w.one.middle ≤ j
+  factor-ends i j x w = omega (arith, many-onward factor-onward w.one.others, many-onward term-onward w.others)
+
+  -- what is shorter than a condition-name alone is one too
+  pub alone-shorter : (i j n : ℕ) (x l : Expr) → Expression t level i j x → Expression t level i n l → is_name_alone t l ≡ true → j < n → is_name_alone t x ≡ true
+  unfolding NameOrOperated
+  alone-shorter i j n x l w v is lt =
+      elim (sole i n l v) [
+        | inr none ↦ absurd (alone-place l is none)
+        | inl factor ↦
+            let before = factor-prefix i w.one.middle n w.one.first l w.one.one factor is in
+            elim (first-factor i j x w) [
+              | inl same ↦ ap (is_name_alone t) same.0 ∙ (before (omega (arith, lt, same.1))).0
+              | inr operated ↦ absurd ((before (omega (arith, lt, factor-ends i j x w))).1 operated)
+            ]
+      ]
