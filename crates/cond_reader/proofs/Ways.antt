@@ -26,6 +26,17 @@ regrouped Q agrees to from = record {
   moves = λ i j x w. agrees.moves i j x (from i j x w);
 }
 
+-- another reader with the same answers
+pub reread : {A : Type 0} {size : ℕ} {q : Reader A} {P : ℕ → ℕ → A → Type 0} {go : ℕ → Type 0} (p : Reader A) → ((i : ℕ) → p i ≡ q i) → Agrees size q P go → Agrees size p P go
+reread p same agrees = record {
+  sound = λ i j x h. agrees.sound i j x (sym (same i) ∙ h);
+  best = λ i j x w. elim (agrees.best i j x w) [
+    | inl read ↦ inl (same i ∙ read)
+    | inr g ↦ inr (g.0, record { tree = g.1.tree; end = g.1.end; read = same i ∙ g.1.read; beyond = g.1.beyond })
+  ];
+  moves = agrees.moves;
+}
+
 -- what is read, as a whole of another kind
 module _ {A B : Type 0} (size : ℕ) (p : Reader A) (P : ℕ → ℕ → A → Type 0) (go : ℕ → Type 0) (ps : Agrees size p P go) (make : ℕ → ℕ → A → B) where
   abbrev pub made : Reader B
