@@ -47,6 +47,11 @@ module _ (t : Text) where
   goes-not-ends i (inl g) is = extends-ends (symbol t i) g is
   goes-not-ends i (inr g) is = says-ends (symbol t i) g is
 
+  pub ended-not-close : (i : ℕ) → (Goes i ⊎ (symbol t i ≡ s.And)) ⊎ (symbol t i ≡ s.Or) → symbol t i ≡ s.Close → ⊥
+  ended-not-close i (inl (inl g)) at = goes-not-ends i g (ap ends at)
+  ended-not-close i (inl (inr is)) at = let both : s.And ≡ s.Close = sym is ∙ at in cc
+  ended-not-close i (inr is) at = let both : s.Or ≡ s.Close = sym is ∙ at in cc
+
   module _ (level : ℕ) where
     -- ---- class tests, relations, sign tests and condition-names
 
@@ -547,7 +552,7 @@ module _ (t : Text) where
       and-not-or i (inl g) at = goes-not-ends i g (ap ends at)
       and-not-or i (inr is) at = let both : s.And ≡ s.Or = sym is ∙ at in cc
 
-      disjunction-agrees : (last : Option Last) → Agrees size (disjunction t level inner last) (Disjunction t level Inner last) (λ i. GoesAnd i ⊎ (symbol t i ≡ s.Or))
+      pub disjunction-agrees : (last : Option Last) → Agrees size (disjunction t level inner last) (Disjunction t level Inner last) (λ i. GoesAnd i ⊎ (symbol t i ≡ s.Or))
       unfolding disjunction more_ors
       disjunction-agrees last =
           series-agrees size (λ left. next_or t level inner (or_else left.last last)) (λ left. NextOr t level Inner (or_else left.last last)) either GoesAnd (λ i. symbol t i ≡ s.Or)

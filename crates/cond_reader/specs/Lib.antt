@@ -12,4 +12,5 @@ pub mod Relations
 pub mod Symbols
 pub mod Table
 pub mod Text
+pub mod UnitFaults
 pub mod View
