@@ -3,7 +3,7 @@ use cobol_syntax::{Entry, FileEntry, Operand, Paragraph, Place, Program, Select}
 use copy_origins::Expanded;
 use std::alloc::Global;
 use std::test::Fail;
-use y2k_base::{Bytes, FileId, List, Memory, Origin, Picture, Word, WordKind};
+use y2k_base::{Bytes, FileId, List, Memory, Origin, Picture, Twin, Word, WordKind};
 
 /// The kind of a word of these tests, by its first character. A tilde stands before a PICTURE word.
 fn kind_of(spelled: &[u8]) -> WordKind {
@@ -436,5 +436,80 @@ fn divisions_stand_in_their_order(rt: HostRuntime) -> Result<(), Fail> {
     }
     let empty = read(rt.alloc(), List::new(rt.alloc()))?;
     assert_eq!(rt; empty.items(), b"UnitShape 1:1");
+    Ok(())
+}
+
+/// The words of a program whose last sentence is STOP RUN, cut after this many words.
+fn read_cut(alloc: Global, count: usize) -> Result<Bytes, Memory> {
+    let mut words = List::new(alloc);
+    push_text(
+        alloc,
+        &mut words,
+        b"ID DIVISION . PROGRAM-ID . P . DATA DIVISION . WORKING-STORAGE SECTION . 01 D PIC ~9(6) . 01 YY PIC ~9(2) .",
+    )?;
+    push_text(
+        alloc,
+        &mut words,
+        b"PROCEDURE DIVISION . MAIN-PARA . MOVE ZERO TO D . MOVE 5 TO YY . STOP RUN .",
+    )?;
+    let mut cut = List::new(alloc);
+    for word in words.items() {
+        if cut.len() < count {
+            cut.push(word.twin(alloc)?)?;
+        }
+    }
+    read(alloc, cut)
+}
+
+#[test]
+fn a_program_cut_after_each_word_is_read_or_refused_at_its_last_word(rt: HostRuntime) -> Result<(), Fail> {
+    for count in 0..42usize {
+        let got = read_cut(rt.alloc(), count)?;
+        let whole = match count {
+            28 => b"P.13: 1 D pic 96@16 Display Trailing.18: 1 YY pic 92@21 Display Trailing.26: MAIN-PARA 0.".as_slice(),
+            33 => b"P.13: 1 D pic 96@16 Display Trailing.18: 1 YY pic 92@21 Display Trailing.26: MAIN-PARA 1.",
+            38 => b"P.13: 1 D pic 96@16 Display Trailing.18: 1 YY pic 92@21 Display Trailing.26: MAIN-PARA 2.",
+            41 => b"P.13: 1 D pic 96@16 Display Trailing.18: 1 YY pic 92@21 Display Trailing.26: MAIN-PARA 3.",
+            _ => b"",
+        };
+        if !whole.is_empty() {
+            assert_eq!(rt; got.items(), whole);
+        } else if count == 0 {
+            assert_eq!(rt; got.items(), b"UnitShape 1:1");
+        } else {
+            let last = count - 1;
+            let want = format!(in rt.alloc(); "UnitShape 7:{last}")?;
+            assert_eq!(rt; got.items(), want.as_bytes());
+        }
+    }
+    Ok(())
+}
+
+#[test]
+fn sentences_stand_in_paragraphs_and_sections(rt: HostRuntime) -> Result<(), Fail> {
+    for (text, want) in [
+        (b"STOP RUN . A . STOP RUN . STOP RUN . B SECTION . C .".as_slice(), b"P.10:  1.13: A 2.21: B section 0.24: C 0.".as_slice()),
+        (b"B SECTION . STOP RUN .", b"P.10: B section 1."),
+        (b"A . CALL \"X . STOP RUN .", b"UnitShape 7:12"),
+        (b"CALL \"X .", b"UnitShape 7:10"),
+        (b"STOP RUN . A . STOP", b"UnitShape 7:15"),
+        (b"IF A = 1 STOP", b"UnitShape 7:14"),
+    ] {
+        let mut words = List::new(rt.alloc());
+        push_text(rt.alloc(), &mut words, b"ID DIVISION . PROGRAM-ID . P . PROCEDURE DIVISION .")?;
+        push_text(rt.alloc(), &mut words, text)?;
+        let got = read(rt.alloc(), words)?;
+        assert_eq!(rt; got.items(), want);
+    }
+    for (count, want) in [(64, b"P.10:  1.".as_slice()), (65, b"NestDeep 7:10")] {
+        let mut words = List::new(rt.alloc());
+        push_text(rt.alloc(), &mut words, b"ID DIVISION . PROGRAM-ID . P . PROCEDURE DIVISION .")?;
+        for _ in 0..count {
+            push_text(rt.alloc(), &mut words, b"IF A = 1")?;
+        }
+        push_text(rt.alloc(), &mut words, b"STOP RUN .")?;
+        let got = read(rt.alloc(), words)?;
+        assert_eq!(rt; got.items(), want);
+    }
     Ok(())
 }

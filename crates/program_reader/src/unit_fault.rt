@@ -1,63 +1,33 @@
-ghost use Rattle.std.specs.Prelude.{◌≡◌, drop};
+ghost use Rattle.std.specs.Prelude.{◌≡◌};
 ghost use Rattle.program_reader.specs.UnitFaults as spec;
 
 use crate::fault::{Refused, RefusedKind};
 use crate::text::Units;
-use cond_reader::{Kind, Symbol, same_symbol};
+use cond_reader::UnitFault;
 use y2k_base::Origin;
 
-/// How many levels a unit may open.
-const LEVELS: usize = 64;
-
-/// Whether the word opens a level: a parenthesis, or IF, EVALUATE, PERFORM, READ or ERROR.
-fn opens_level(kind: Kind) -> bool
-    ensures { result ≡ spec.opens_level kind }
+/// The refusal for a fault of a unit. Want of memory, which is none, would name the last word.
+fn refused_of(fault: UnitFault, last: Origin) -> Refused
+    ensures { result ≡ spec.refused_of last fault }
 {
-    same_symbol(kind.symbol, Symbol::Open) || same_symbol(kind.symbol, Symbol::Nest)
-}
-
-/// How many words before the next period open a level; none where no period stands.
-fn depth(mut kinds: &[Kind]) -> Option<usize>
-    ensures { result ≡ spec.depth kinds.entry.now }
-{
-    let mut count = 0usize;
-    while let [kind, rest @ ..] = kinds {
-        if same_symbol(kind.symbol, Symbol::Period) {
-            return Some(count);
-        }
-        if opens_level(*kind) {
-            count += 1;
-        }
-        kinds = rest;
-    }
-    None
-}
-
-/// Why a unit with this many words that open a level has no reading.
-fn kind_of_depth(count: usize) -> RefusedKind
-    ensures { result ≡ spec.kind_of_depth count }
-{
-    if count > LEVELS {
-        RefusedKind::NestDeep
-    } else {
-        RefusedKind::UnitShape
+    match fault {
+        UnitFault::UnitShape(at) => Refused {
+            kind: RefusedKind::UnitShape,
+            at,
+        },
+        UnitFault::NestDeep(at) => Refused {
+            kind: RefusedKind::NestDeep,
+            at,
+        },
+        UnitFault::Memory => Refused {
+            kind: RefusedKind::UnitShape,
+            at: last,
+        },
     }
 }
 
 impl<'a> Units<'a> {
     ghost use Rattle.program_reader.specs.View.{view_of};
-
-    /// What the words from a position on are.
-    fn kinds_from(&self, at: u32) -> &[Kind]
-        ensures { result.now ≡ drop at self.now.parts.kinds.now }
-    {
-        let from = at as usize;
-        if from < self.parts.kinds.len() {
-            &self.parts.kinds[from..]
-        } else {
-            &[]
-        }
-    }
 
     /// The place of the last word; line 1, column 1 where there is none.
     #[tactic(auto, unfolding(crate::specs::UnitFaults::last_place))]
@@ -76,31 +46,19 @@ impl<'a> Units<'a> {
         }
     }
 
-    /// The place of the word at a position.
-    #[tactic(auto, unfolding(crate::specs::UnitFaults::place_of))]
-    fn place_of(&self, at: u32) -> Origin
-        ensures { result ≡ spec.place_of (view_of self.now) at }
-    {
-        match self.parts.words.get(at as usize) {
-            Some(word) => word.origin,
-            None => self.last_place(),
-        }
-    }
-
-    /// Why no unit that may stand at a position is read there.
+    /// Why no unit that may stand at a position is read there. Past the last word a unit is missing.
     #[tactic(auto, unfolding(crate::specs::UnitFaults::fault))]
     pub fn fault(&self, at: u32) -> Refused
         ensures { result ≡ spec.fault (view_of self.now) at }
     {
-        match depth(self.kinds_from(at)) {
-            None => Refused {
+        let last = self.last_place();
+        if (at as usize) < self.parts.words.len() {
+            refused_of(self.parts.unit_fault(at), last)
+        } else {
+            Refused {
                 kind: RefusedKind::UnitShape,
-                at: self.last_place(),
-            },
-            Some(count) => Refused {
-                kind: kind_of_depth(count),
-                at: self.place_of(at),
-            },
+                at: last,
+            }
         }
     }
 }
