@@ -349,6 +349,8 @@ fn the_longest_operand_is_read(rt: HostRuntime) -> Result<(), Fail> {
         (b"+7 ( 1 )", b"7e-0 of 1@0 1"),
         (b"123456789012345678", b"123456789012345678e-0 of 18@0 1"),
         (b"1234567890123456789", b""),
+        (b"5.", b""),
+        (b"-.5", b"-5e-1 of 1@0 1"),
         (b"\"AND", b"AND\"@0 1"),
         (b"ZEROES ( 1 )", b"all 48@0 1"),
         (b"SPACES", b"all 32@0 1"),
