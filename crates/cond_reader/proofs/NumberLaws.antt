@@ -173,7 +173,7 @@ fraction-read n c k (b ∷ bs) all fits some point below =
     step-digit true n c k b bs parts.0 within below
     ∙ fraction-read longer (c + 1) (k + 1) bs parts.1 (omega (arith, fits)) (omega arith) (omega arith) (grown n b c within below parts.0)
     ∙ triple (longer * 10 ^ length bs + number bs) (c + 1 + length bs) (k + 1 + length bs) (n * 10 ^ length (b ∷ bs) + number (b ∷ bs)) (c + length (b ∷ bs)) (k + length (b ∷ bs))
-        (sym (shifted n (b - 48) (length bs) (number bs))) (omega arith) (omega arith)
+    (sym (shifted n (b - 48) (length bs) (number bs))) (omega arith) (omega arith)
 
 record IsFraction (c k : ℕ) (ds : List ℕ) : Type 0 where
   all : all_ascii_digits ds ≡ true
@@ -259,7 +259,7 @@ decimal-read n c _ _ _ (point {b = b} {bs = bs} e) a d ended some fits below =
     unsigned-by false n c 0 b bs true _ e refl
     ∙ fraction-read n c 0 bs d (omega (arith, fits)) (omega (arith, some)) (omega (arith, has)) below
     ∙ triple (n * 10 ^ length bs + number bs) (c + length bs) (0 + length bs) ((n * 10 ^ 0 + 0) * 10 ^ length bs + number bs) (c + (0 + length bs)) (length bs)
-        (ap (λ (x : ℕ). x * 10 ^ length bs + number bs) same) (omega arith) (omega arith)
+    (ap (λ (x : ℕ). x * 10 ^ length bs + number bs) same) (omega arith) (omega arith)
 decimal-read n c _ _ rest (more {b = b} {bs = bs} {front = front} e s) a d ended some fits below =
     let parts = both_true (is_ascii_digit b) (all_ascii_digits front) a in
     let ds = decimals rest in
@@ -268,8 +268,8 @@ decimal-read n c _ _ rest (more {b = b} {bs = bs} {front = front} e s) a d ended
     step-digit false n c 0 b bs parts.0 within below
     ∙ decimal-read longer (c + 1) bs front rest s parts.1 d ended (omega arith) (omega (arith, fits)) (grown n b c within below parts.0)
     ∙ triple ((longer * 10 ^ length front + number front) * 10 ^ length ds + number ds) (c + 1 + (length front + length ds)) (length ds)
-        ((n * 10 ^ length (b ∷ front) + number (b ∷ front)) * 10 ^ length ds + number ds) (c + (length (b ∷ front) + length ds)) (length ds)
-        (ap (λ (x : ℕ). x * 10 ^ length ds + number ds) (sym (shifted n (b - 48) (length front) (number front)))) (omega arith) refl
+    ((n * 10 ^ length (b ∷ front) + number (b ∷ front)) * 10 ^ length ds + number ds) (c + (length (b ∷ front) + length ds)) (length ds)
+    (ap (λ (x : ℕ). x * 10 ^ length ds + number ds) (sym (shifted n (b - 48) (length front) (number front)))) (omega arith) refl
 
 record IsDecimal (c : ℕ) (front : List ℕ) (rest : Option (List ℕ)) : Type 0 where
   all : all_ascii_digits front ≡ true
@@ -349,7 +349,7 @@ decimal-is text =
           let ds = decimals rest in
           decimal-read 0 0 text front rest (split text) w.all w.others w.ended w.some w.fits (omega (arith, pow-zero 10))
           ∙ triple ((0 * 10 ^ length front + number front) * 10 ^ length ds + number ds) (0 + (length front + length ds)) (length ds) (number front * 10 ^ length ds + number ds) (length front + length ds) (length ds)
-              (ap (λ (x : ℕ). x * 10 ^ length ds + number ds) (omega arith)) (omega arith) refl
+          (ap (λ (x : ℕ). x * 10 ^ length ds + number ds) (omega arith)) (omega arith) refl
           ∙ sym (decimal-by text true e)
       | false ↦ λ e.
           elim (unsigned false 0 0 0 text) as (λ (r : Option Digits). unsigned false 0 0 0 text ≡ r → r ≡ decimal text) [
