@@ -1,0 +1,6 @@
+pub mod CutLemmas
+pub mod FileLemmas
+pub mod MapLemmas
+pub mod PackedLemmas
+pub mod Parts
+pub mod UntameLemmas

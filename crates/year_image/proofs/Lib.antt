@@ -1,0 +1,17 @@
+pub mod Lengths
+pub mod Spans
+pub mod Order
+pub mod Numbers
+pub mod NumberImages
+pub mod Fills
+pub mod Digits
+pub mod PackedImages
+pub mod Injective
+pub mod PackedViews
+pub mod MarkLemmas
+pub mod YearNumbers
+pub mod EditedImages
+pub mod PartsBy
+pub mod Alike
+pub mod FileLemmas
+pub mod Offsets
