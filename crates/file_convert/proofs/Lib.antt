@@ -3,4 +3,5 @@ pub mod FileLemmas
 pub mod MapLemmas
 pub mod PackedLemmas
 pub mod Parts
+pub mod ReadLemmas
 pub mod UntameLemmas

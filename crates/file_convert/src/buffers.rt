@@ -69,7 +69,7 @@ impl Buffers {
         ensures same { S.told shelf.new ≡ S.told shelf.old }
         ensures kept { HasRoom cuts.now self.new }
     {
-        let count = match self.read(shelf, name, index * cuts.length as u64, size) {
+        let count = match read_up_to(shelf, name, index * cuts.length as u64, size, &mut self.record) {
             Ok(count) => count,
             Err(error) => return Err(shelf_fault(error, false)),
         };
@@ -83,27 +83,6 @@ impl Buffers {
             None => Ok(true),
             Some(cut) => Err(self.untame(alloc, index, &cut)),
         }
-    }
-
-    /// Reads from that place on as much as there is room for, up to the end of the file.
-    fn read<S: Shelf>(
-        &mut self,
-        shelf: &mut S,
-        name: &str,
-        at: u64,
-        end: u64,
-    ) -> Result<usize, ShelfErr>
-        requires { at < end }
-        ensures bytes { IfOk result (λ count. IfSome (S.told shelf.old) (λ files. IsReadUpTo end (bytes_of files name.now) at self.old.record.items self.new.record.items count)) }
-        ensures at_most { IfOk result (λ count. count ≤ length self.new.record.items) }
-        ensures cause { HasCause (S.faults shelf.old) (S.faults shelf.new) result }
-        ensures same { S.told shelf.new ≡ S.told shelf.old }
-        ensures length { length self.new.record.items ≡ length self.old.record.items }
-        ensures image { self.new.image ≡ self.old.image }
-    {
-        let room = (end - at).min(self.record.len() as u64) as usize;
-        let count = shelf.read(name, at, &mut self.record[..room])?;
-        Ok(count)
     }
 
     /// The fault of a cut that is not tame in the record of that index.
@@ -122,4 +101,23 @@ impl Buffers {
             Err(_) => ConvertFault::Memory,
         }
     }
+}
+
+/// Reads from that place on as much as there is room for, up to that end.
+fn read_up_to<S: Shelf>(
+    shelf: &mut S,
+    name: &str,
+    at: u64,
+    end: u64,
+    into: &mut [u8],
+) -> Result<usize, ShelfErr>
+    requires { at < end }
+    ensures bytes { IfOk result (λ count. IfSome (S.told shelf.old) (λ files. IsReadUpTo end (bytes_of files name.now) at into.old into.new count)) }
+    ensures at_most { IfOk result (λ count. count ≤ length into.new) }
+    ensures cause { HasCause (S.faults shelf.old) (S.faults shelf.new) result }
+    ensures same { S.told shelf.new ≡ S.told shelf.old }
+{
+    let room = (end - at).min(into.len() as u64) as usize;
+    let count = shelf.read(name, at, &mut into[..room])?;
+    Ok(count)
 }
