@@ -1,7 +1,7 @@
 -- Files whose records are converted one by one.
-use Rattle.std.proofs.Common.{◌≡◌, ℕ, suc, ◌+◌, ◌-◌, ◌*◌, ◌/◌, ◌<◌, ◌≤◌, Bool, true, false, not, inl, inr, List, [], ◌∷◌, ◌++◌, length, take, drop, Option, Some, None, refl, sym, ap, ◌∙◌, subst, arith, append_assoc, append-nil}
+use Rattle.std.proofs.Common.{◌≡◌, ℕ, suc, ◌+◌, ◌-◌, ◌*◌, ◌/◌, ◌<◌, ◌≤◌, Bool, true, false, inl, inr, List, [], ◌∷◌, ◌++◌, length, take, drop, Option, Some, None, refl, sym, ap, ◌∙◌, subst, arith, append_assoc, append-nil}
 use Rattle.std.specs.Option.{option_map}
-use Rattle.std.specs.Prelude.{IfSome}
+use Rattle.std.specs.Prelude.{IfSome, Result, Ok, Err, IfErr, IsErrAnd}
 use Rattle.std.specs.FinMap.{get, insert}
 use Rattle.std.proofs.Math.Nat.{mul-le-mul_right}
 use Rattle.std.proofs.lemmas.Nat.{le-div, div-mul-add}
@@ -19,6 +19,11 @@ use Rattle.file_convert.specs.declared.cut.Cuts.{Cuts}
 use Rattle.file_convert.specs.declared.fault.ConvertFault.{ConvertFault}
 use Rattle.file_convert.specs.declared.fault.ConvertFault.TheVariants.{Untame, PartialRecord, Shelf, Memory}
 use Rattle.file_convert.proofs.MapLemmas.{bytes_of-set, bytes_of-other, insert_twice}
+
+-- a fault that is passed on
+pub err_carried : {T E : Type 0} (P : E → Type 0) (result : Result T E) (fault : E) → IsErrAnd result (λ e. e ≡ fault) → P fault → IfErr result P
+err_carried P (Ok x) fault h p = tt
+err_carried P (Err e) fault h p = subst P (sym h) p
 
 module _ (cuts : Cuts) where
   -- one record more
@@ -68,11 +73,11 @@ module _ (cuts : Cuts) where
   pub no_more : (k : ℕ) (bs : List ℕ) → k * cuts.length ≤ length bs → length bs ≤ k * cuts.length → IsTameUpTo cuts k bs → IsTameFile cuts bs k
   no_more k bs h l t = (omega (arith, h, l), t)
 
-  pub next-true : (k : ℕ) (bs img : List ℕ) (whole : Bool) → not whole ≡ false → IsNext cuts k bs img whole → IsNext cuts k bs img true
+  pub next-true : (k : ℕ) (bs img : List ℕ) (whole : Bool) → whole ≡ true → IsNext cuts k bs img whole → IsNext cuts k bs img true
   next-true k bs img true e h = h
   next-true k bs img false e h = absurd (cc)
 
-  pub next-false : (k : ℕ) (bs img : List ℕ) (whole : Bool) → not whole ≡ true → IsNext cuts k bs img whole → IsNext cuts k bs img false
+  pub next-false : (k : ℕ) (bs img : List ℕ) (whole : Bool) → whole ≡ false → IsNext cuts k bs img whole → IsNext cuts k bs img false
   next-false k bs img false e h = h
   next-false k bs img true e h = absurd (cc)
 
@@ -85,7 +90,7 @@ module _ (cuts : Cuts) where
     IsNextTold k told img whole = IfSome told (λ files. IsNext cuts k (bytes_of files name) img whole)
 
     -- a record more is tame
-    pub tame-next : (k : ℕ) (img : List ℕ) (whole : Bool) (start : Option Files) → not whole ≡ false → IsTameFront k start → IsNextTold k start img whole → IsTameFront (k + 1) start
+    pub tame-next : (k : ℕ) (img : List ℕ) (whole : Bool) (start : Option Files) → whole ≡ true → IsTameFront k start → IsNextTold k start img whole → IsTameFront (k + 1) start
     tame-next k img whole None e t n = tt
     tame-next k img whole (Some files) e t n =
         let bs = bytes_of files name in
@@ -147,14 +152,14 @@ module _ (cuts : Cuts) where
           ∙ insert_twice files to front (front ++ take m img)
           ∙ ap (λ (l : List ℕ). insert files to (front ++ take m l)) e
 
-      pub held-next : (k : ℕ) (img : List ℕ) (whole : Bool) (start told now : Option Files) → not whole ≡ false → IsHeld k start told → IsNextTold k start img whole → now ≡ option_map (appended to img) told → IsHeld (k + 1) start now
+      pub held-next : (k : ℕ) (img : List ℕ) (whole : Bool) (start told now : Option Files) → whole ≡ true → IsHeld k start told → IsNextTold k start img whole → now ≡ option_map (appended to img) told → IsHeld (k + 1) start now
       held-next k img whole None told now e held n a = a ∙ ap (option_map (appended to img)) held
       held-next k img whole (Some files) told now e held n a =
           let next = next-true k (bytes_of files name) img whole e n in
           a ∙ ap (option_map (appended to img)) held ∙ ap Some (appended-front k files img next.2)
 
       -- what a failed addition leaves
-      pub append-left : (k : ℕ) (img : List ℕ) (whole : Bool) (start told now : Option Files) (error : ShelfErr) → 1 ≤ cuts.length → not whole ≡ false → IsHeld k start told → IsTameFront k start → IsNextTold k start img whole → MayHaveAppended to img told now → HasLeft cuts name to start now (fault_of error true)
+      pub append-left : (k : ℕ) (img : List ℕ) (whole : Bool) (start told now : Option Files) (error : ShelfErr) → 1 ≤ cuts.length → whole ≡ true → IsHeld k start told → IsTameFront k start → IsNextTold k start img whole → MayHaveAppended to img told now → HasLeft cuts name to start now (fault_of error true)
       append-left k img whole start told now error one e held t n a = left_of error (begun start held t n a)
         where
           left_of : (error : ShelfErr) → MayHaveBegun cuts name to start now → HasLeft cuts name to start now (fault_of error true)
@@ -181,7 +186,7 @@ module _ (cuts : Cuts) where
           let e : length (bytes_of files name) ≡ k * cuts.length + 0 = omega (arith, h.0) in
           held ∙ ap (λ (l : List ℕ). Some (insert files to l)) (sym (whole-image k 0 (bytes_of files name) e one))
 
-    pub tame_file : (k : ℕ) (img : List ℕ) (whole : Bool) (start : Option Files) → not whole ≡ true → IsTameFront k start → IsNextTold k start img whole → IfSome start (λ files. IsTameFile cuts (bytes_of files name) k)
+    pub tame_file : (k : ℕ) (img : List ℕ) (whole : Bool) (start : Option Files) → whole ≡ false → IsTameFront k start → IsNextTold k start img whole → IfSome start (λ files. IsTameFile cuts (bytes_of files name) k)
     tame_file k img whole None e t n = tt
     tame_file k img whole (Some files) e t n = no_more k (bytes_of files name) t.0 (next-false k (bytes_of files name) img whole e n) t.1
 
