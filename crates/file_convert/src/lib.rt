@@ -10,6 +10,8 @@ mod file;
 mod packed;
 mod pair;
 mod record;
+#[cfg(test)]
+mod tests;
 
 pub use cut::{Cut, CutKind, Cuts};
 pub use fault::ConvertFault;
