@@ -1,9 +1,10 @@
 -- Files of one record more.
-use Rattle.std.proofs.Common.{◌≡◌, ℕ, zero, suc, ◌+◌, ◌*◌, List, [], ◌∷◌, ◌++◌, take, drop, refl, sym, ap, ◌∙◌, arith, append_assoc}
-use Rattle.std.proofs.lemmas.List.{drop-drop}
-use Rattle.year_image.specs.Piece.{Piece}
+use Rattle.std.proofs.Common.{◌≡◌, ℕ, zero, suc, ◌+◌, ◌*◌, ◌≤◌, List, [], ◌∷◌, ◌++◌, length, take, drop, map, refl, sym, ap, ◌∙◌, arith, append_assoc, length-append, length-drop}
+use Rattle.std.proofs.lemmas.List.{drop-drop, length-take-le, take_at, drop_at}
+use Rattle.year_image.specs.Piece.{Piece, size, grown_size}
 use Rattle.year_image.specs.Image.{image, IsTame}
 use Rattle.year_image.specs.Span.{part}
+use Rattle.year_image.proofs.Lengths.{length-image}
 use Rattle.year_image.specs.Files.{records, images, AreTame}
 
 -- the first records and those after them
@@ -30,3 +31,27 @@ images-append ps (r ∷ rs) ss = ap (λ (l : List ℕ). image 48 ps r ++ l) (ima
 pub tame-both : (ps : List Piece) (rs ss : List (List ℕ)) → AreTame ps rs → AreTame ps ss → AreTame ps (rs ++ ss)
 tame-both ps [] ss h k = k
 tame-both ps (r ∷ rs) ss h k = (h.0, tame-both ps rs ss h.1 k)
+
+-- the records of the image of a file are the images of its records
+pub records-images : (ps : List Piece) (count : ℕ) (bs : List ℕ) → count * size ps ≤ length bs → records (grown_size ps) count (images ps (records (size ps) count bs)) ≡ map (image 48 ps) (records (size ps) count bs)
+records-images ps zero bs h = refl
+records-images ps (suc count) bs h =
+    let first = image 48 ps (take (size ps) bs) in
+    let rest = images ps (records (size ps) count (drop (size ps) bs)) in
+    let e : suc count * size ps ≡ size ps + count * size ps = omega arith in
+    let long : length first ≡ grown_size ps = length-image 48 ps (take (size ps) bs) (length-take-le (size ps) bs (omega (arith, h, e))) in
+    ap (λ (l : List ℕ). l ∷ records (grown_size ps) count (drop (grown_size ps) (first ++ rest))) (take_at first rest (grown_size ps) long)
+    ∙ ap (λ (l : List ℕ). first ∷ records (grown_size ps) count l) (drop_at first rest (grown_size ps) long)
+    ∙ ap (λ (l : List (List ℕ)). first ∷ l) (records-images ps count (drop (size ps) bs) (omega (arith, h, e, length-drop (size ps) bs)))
+
+-- and it has as many bytes as they have together
+pub length-images : (ps : List Piece) (count : ℕ) (bs : List ℕ) → count * size ps ≤ length bs → length (images ps (records (size ps) count bs)) ≡ count * grown_size ps
+length-images ps zero bs h = let e : 0 ≡ 0 * grown_size ps = omega arith in e
+length-images ps (suc count) bs h =
+    let first = image 48 ps (take (size ps) bs) in
+    let rest = images ps (records (size ps) count (drop (size ps) bs)) in
+    let e : suc count * size ps ≡ size ps + count * size ps = omega arith in
+    let f : suc count * grown_size ps ≡ grown_size ps + count * grown_size ps = omega arith in
+    let long : length first ≡ grown_size ps = length-image 48 ps (take (size ps) bs) (length-take-le (size ps) bs (omega (arith, h, e))) in
+    let later : length rest ≡ count * grown_size ps = length-images ps count (drop (size ps) bs) (omega (arith, h, e, length-drop (size ps) bs)) in
+    omega (arith, length-append first rest, long, later, f)

@@ -15,3 +15,5 @@ pub mod PartsBy
 pub mod Alike
 pub mod FileLemmas
 pub mod Offsets
+pub mod DigitPieces
+pub mod Examples
