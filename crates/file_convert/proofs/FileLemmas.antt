@@ -1,8 +1,8 @@
 -- Files whose records are converted one by one.
-use Rattle.std.proofs.Common.{◌≡◌, ℕ, suc, ◌+◌, ◌-◌, ◌*◌, ◌/◌, ◌<◌, ◌≤◌, Bool, true, false, inl, inr, List, [], ◌∷◌, ◌++◌, length, take, drop, Option, Some, None, refl, sym, ap, ◌∙◌, subst, arith, append_assoc, append-nil}
+use Rattle.std.proofs.Common.{◌≡◌, ℕ, ◌+◌, ◌-◌, ◌*◌, ◌/◌, ◌<◌, ◌≤◌, Bool, true, false, inl, inr, List, [], ◌∷◌, ◌++◌, length, take, drop, Option, Some, None, sym, ap, ◌∙◌, subst, arith, append_assoc, append-nil}
 use Rattle.std.specs.Option.{option_map}
 use Rattle.std.specs.Prelude.{IfSome, Result, Ok, Err, IfErr, IsErrAnd}
-use Rattle.std.specs.FinMap.{get, insert}
+use Rattle.std.specs.FinMap.{insert}
 use Rattle.std.proofs.Math.Nat.{mul-le-mul_right}
 use Rattle.std.proofs.lemmas.Nat.{le-div, div-mul-add}
 use Rattle.std.proofs.lemmas.List.{take-append-drop}
@@ -44,12 +44,11 @@ module _ (cuts : Cuts) where
       let count = length bs / cuts.length in
       let le : k ≤ count = le-div k (length bs) cuts.length one h in
       let e : count ≡ k + (count - k) = omega (arith, le) in
-      let rest = images (pieces cuts) (records cuts.length (count - k) (drop (k * cuts.length) bs)) in
-      (
+      let rest = images (pieces cuts) (records cuts.length (count - k) (drop (k * cuts.length) bs)) in (
         rest,
         ap (λ n. images (pieces cuts) (records cuts.length n bs)) e
-        ∙ ap (images (pieces cuts)) (records-append cuts.length k (count - k) bs)
-        ∙ images-append (pieces cuts) (records cuts.length k bs) (records cuts.length (count - k) (drop (k * cuts.length) bs))
+            ∙ ap (images (pieces cuts)) (records-append cuts.length k (count - k) bs)
+            ∙ images-append (pieces cuts) (records cuts.length k bs) (records cuts.length (count - k) (drop (k * cuts.length) bs)),
       )
 
   -- with a front of the image of one record more
@@ -57,12 +56,11 @@ module _ (cuts : Cuts) where
   front-next k m bs one h =
       let grown = image 48 (pieces cuts) (record_at cuts k bs) in
       let front = front_image cuts k bs in
-      let more = front-of (k + 1) bs one h in
-      (
+      let more = front-of (k + 1) bs one h in (
         drop m grown ++ more.0,
         more.1
-        ∙ ap (λ (l : List ℕ). l ++ more.0) (front-more k bs ∙ ap (λ (l : List ℕ). front ++ l) (sym (take-append-drop m grown)) ∙ sym (append_assoc front (take m grown) (drop m grown)))
-        ∙ append_assoc (front ++ take m grown) (drop m grown) more.0
+            ∙ ap (λ (l : List ℕ). l ++ more.0) (front-more k bs ∙ ap (λ (l : List ℕ). front ++ l) (sym (take-append-drop m grown)) ∙ sym (append_assoc front (take m grown) (drop m grown)))
+            ∙ append_assoc (front ++ take m grown) (drop m grown) more.0,
       )
 
   -- the whole records of a file

@@ -69,7 +69,13 @@ impl Buffers {
         ensures same { S.told shelf.new ≡ S.told shelf.old }
         ensures kept { HasRoom cuts.now self.new }
     {
-        let count = match read_up_to(shelf, name, index * cuts.length as u64, size, &mut self.record) {
+        let count = match read_up_to(
+            shelf,
+            name,
+            index * cuts.length as u64,
+            size,
+            &mut self.record,
+        ) {
             Ok(count) => count,
             Err(error) => return Err(shelf_fault(error, false)),
         };

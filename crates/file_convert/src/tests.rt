@@ -79,11 +79,28 @@ fn untame(alloc: Global, cuts: &Cuts, source: &[u8]) -> Result<Option<u32>, Fail
 #[test]
 fn a_packed_number_gets_19_above_its_year(rt: HostRuntime) -> Result<(), Fail> {
     let six = one(rt.alloc(), 4, packed(0, 6, 4, None))?;
-    assert!(rt; gives(rt.alloc(), &six, &[0x09, 0x91, 0x23, 0x1f], &[0x01, 0x99, 0x91, 0x23, 0x1f])?);
+    assert!(rt;
+        gives(
+            rt.alloc(),
+            &six,
+            &[0x09, 0x91, 0x23, 0x1f],
+            &[0x01, 0x99, 0x91, 0x23, 0x1f]
+        )?
+    );
     let five = one(rt.alloc(), 3, packed(0, 5, 3, None))?;
-    assert!(rt; gives(rt.alloc(), &five, &[0x99, 0x36, 0x5c], &[0x19, 0x99, 0x36, 0x5c])?);
+    assert!(rt;
+        gives(
+            rt.alloc(),
+            &five,
+            &[0x99, 0x36, 0x5c],
+            &[0x19, 0x99, 0x36, 0x5c]
+        )?
+    );
     assert_eq!(rt; untame(rt.alloc(), &five, &[0x99, 0x36, 0x5d])?, Some(0));
-    assert_eq!(rt; untame(rt.alloc(), &six, &[0x19, 0x91, 0x23, 0x1f])?, Some(0));
+    assert_eq!(rt;
+        untame(rt.alloc(), &six, &[0x19, 0x91, 0x23, 0x1f])?,
+        Some(0)
+    );
     Ok(())
 }
 
@@ -125,7 +142,12 @@ fn cuts_at_their_limits_convert(rt: HostRuntime) -> Result<(), Fail> {
     let bytes = b"\x09\x91\x23\x45\x67\x89\x01\x23\x4f99";
     let image = b"\x01\x99\x91\x23\x45\x67\x89\x01\x23\x4f1999";
     assert!(rt; gives(alloc, &top, bytes, image)?);
-    let low = two(alloc, 12, packed(0, 2, 0, None), packed(2, 18, 16, Some(99)))?;
+    let low = two(
+        alloc,
+        12,
+        packed(0, 2, 0, None),
+        packed(2, 18, 16, Some(99)),
+    )?;
     let bytes = b"\x09\x9f\x09\x91\x23\x45\x67\x89\x01\x23\x45\x6c";
     let image = b"\x01\x99\x9f\x09\x91\x23\x45\x67\x89\x01\x23\x45\x6c";
     assert!(rt; gives(alloc, &low, bytes, image)?);
@@ -180,11 +202,13 @@ fn failed_writing(answer: &Result<u64, ConvertFault>) -> Option<bool> {
 /// Whether the answer is that this cut is the first that is not tame.
 fn is_untame(answer: &Result<u64, ConvertFault>, row: u64, offset: u32, bytes: &[u8]) -> bool {
     match answer {
-        Err(ConvertFault::Untame {
-            row: r,
-            offset: o,
-            bytes: b,
-        }) => *r == row && *o == offset && b.items() == bytes,
+        Err(
+            ConvertFault::Untame {
+                row: r,
+                offset: o,
+                bytes: b,
+            },
+        ) => *r == row && *o == offset && b.items() == bytes,
         _ => false,
     }
 }
@@ -228,7 +252,10 @@ fn a_file_is_converted_where_it_is_whole_records(rt: HostRuntime) -> Result<(), 
     }
     let long = one(alloc, 80, pair(10, None))?;
     shelf.put("EMPIN", &[0x20; 81])?;
-    assert_eq!(rt; left_over(&check_file(alloc, &mut shelf, "EMPIN", &long)), Some(1));
+    assert_eq!(rt;
+        left_over(&check_file(alloc, &mut shelf, "EMPIN", &long)),
+        Some(1)
+    );
     Ok(())
 }
 

@@ -2,7 +2,7 @@
 use Rattle.std.proofs.Common.{◌≡◌, ℕ, zero, suc, ◌+◌, ◌*◌, ◌≤◌, List, [], ◌∷◌, ◌++◌, length, take, drop, map, refl, sym, ap, ◌∙◌, arith, append_assoc, length-append, length-drop}
 use Rattle.std.proofs.lemmas.List.{drop-drop, length-take-le, take_at, drop_at}
 use Rattle.year_image.specs.Piece.{Piece, size, grown_size}
-use Rattle.year_image.specs.Image.{image, IsTame}
+use Rattle.year_image.specs.Image.{image}
 use Rattle.year_image.specs.Span.{part}
 use Rattle.year_image.proofs.Lengths.{length-image}
 use Rattle.year_image.specs.Files.{records, images, AreTame}

@@ -17,3 +17,4 @@ pub mod FileLemmas
 pub mod Offsets
 pub mod DigitPieces
 pub mod Examples
+pub mod NumberTexts

@@ -1,6 +1,5 @@
 -- Offsets after the conversion.
 use Rattle.std.proofs.Common.{◌≡◌, ℕ, zero, suc, ◌+◌, ◌-◌, ◌<◌, ◌≤◌, cond, List, [], ◌∷◌, ◌++◌, refl, ap, ◌∙◌, arith}
-use Rattle.std.specs.Prelude.{nat_le}
 use Rattle.std.proofs.lemmas.Bool.{le-leb, lt-leb}
 use Rattle.year_image.specs.Piece.{Piece, Keep, Pair, Packed, width, grown_width, size, grown_size}
 use Rattle.year_image.specs.Offset.{new_offset, image_offset}

@@ -7,8 +7,7 @@ pub returns-in-Some-clause-tame : goal.returns-in-Some-clause-tame
 returns-in-Some-clause-tame c =
     let cuts = c.args.cuts.now in
     let source = c.args.source.now in
-    let found : Some c.in-Some.cut ≡ first_untame cuts.list source = c.in-Some.ensures in
-    (
+    let found : Some c.in-Some.cut ≡ first_untame cuts.list source = c.in-Some.ensures in (
       λ h. absurd (cc),
       λ t. let none : first_untame cuts.list source ≡ None = none_from_tame 0 cuts.length cuts.list source c.requires.order.2 c.requires.long t in absurd (cc),
     )

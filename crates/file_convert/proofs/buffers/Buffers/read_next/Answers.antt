@@ -1,4 +1,4 @@
-use Rattle.std.proofs.Common.{◌≡◌, ◌+◌, ◌≤◌, length, sym, ap, arith}
+use Rattle.std.proofs.Common.{◌+◌, ◌≤◌, length, sym, ap, arith}
 use Rattle.year_image.specs.Piece.{width}
 use Rattle.file_convert.specs.Cuts.{piece_of}
 use Rattle.file_convert.proofs.UntameLemmas.{first_inside}
