@@ -1,6 +1,7 @@
 pub mod CutLemmas
 pub mod FileLemmas
 pub mod MapLemmas
+pub mod OneAnswer
 pub mod PackedLemmas
 pub mod Parts
 pub mod PieceLaws
