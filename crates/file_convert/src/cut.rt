@@ -5,8 +5,8 @@ ghost use Rattle.file_convert.specs.Cuts.{piece_of, pieces, IsInOrder};
 use std::alloc::Global;
 use y2k_base::{List, Memory, Twin};
 
-/// What a cut covers: a year of two bytes, or a packed number of this many digits whose year has its units
-/// digit at this power of ten.
+/// What a cut covers: a year of two bytes, or a packed number of this many digits (two a byte, and the sign in
+/// the last half-byte: this project's choice) whose year has its units digit at this power of ten.
 #[derive(Clone, Copy, PartialEq, Eq, Debug)]
 pub enum CutKind {
     Pair,
@@ -22,7 +22,9 @@ pub struct Cut {
     pub pivot: Option<u8>,
 }
 
-/// The years of records of this length, from left to right.
+/// The years of records of this length, from left to right. The calls that take them ask for a length from 1
+/// to 65,535, for cuts in order that don't overlap and end within it, for packed years within their digits and
+/// at most 18 digits in an image, and for pivots from 1 to 99.
 pub struct Cuts {
     pub length: u32,
     pub list: List<Cut>,

@@ -6,7 +6,7 @@ use super::*;
 use shelf::{MemoryShelf, Shelf};
 use std::alloc::Global;
 use std::test::Fail;
-use y2k_base::List;
+use y2k_base::{List, Twin};
 
 /// A pair at that offset.
 fn pair(offset: u32, pivot: Option<u8>) -> Cut
@@ -150,7 +150,8 @@ fn cuts_at_their_limits_convert(rt: HostRuntime) -> Result<(), Fail> {
     )?;
     let bytes = b"\x09\x9f\x09\x91\x23\x45\x67\x89\x01\x23\x45\x6c";
     let image = b"\x01\x99\x9f\x09\x91\x23\x45\x67\x89\x01\x23\x45\x6c";
-    assert!(rt; gives(alloc, &low, bytes, image)?);
+    let twin = low.twin(alloc)?;
+    assert!(rt; gives(alloc, &twin, bytes, image)?);
     Ok(())
 }
 
