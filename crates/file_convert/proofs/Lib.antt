@@ -1,0 +1,9 @@
+pub mod CutLemmas
+pub mod FileLemmas
+pub mod MapLemmas
+pub mod OneAnswer
+pub mod PackedLemmas
+pub mod Parts
+pub mod PieceLaws
+pub mod ReadLemmas
+pub mod UntameLemmas

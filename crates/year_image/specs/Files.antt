@@ -1,0 +1,19 @@
+-- Files of records that all have the same pieces.
+use Rattle.std.specs.Prelude.{ℕ, zero, suc, List, [], ◌∷◌, ◌++◌, take, drop}
+use Rattle.year_image.specs.Piece.{Piece}
+use Rattle.year_image.specs.Image.{image, IsTame}
+
+-- the first records of a file, each of this length
+abbrev pub records : (size count : ℕ) → List ℕ → List (List ℕ)
+records size zero bs = []
+records size (suc count) bs = take size bs ∷ records size count (drop size bs)
+
+-- the images of records, one after the other
+abbrev pub images : List Piece → List (List ℕ) → List ℕ
+images ps [] = []
+images ps (r ∷ rs) = image 48 ps r ++ images ps rs
+
+-- every record is tame
+abbrev pub AreTame : List Piece → List (List ℕ) → Type 0
+AreTame ps [] = Unit {0}
+AreTame ps (r ∷ rs) = IsTame 48 ps r × AreTame ps rs

@@ -1,0 +1,12 @@
+pub mod Digit
+pub mod Piece
+pub mod Packing
+pub mod Image
+pub mod Span
+pub mod Lined
+pub mod Text
+pub mod Views
+pub mod Marks
+pub mod Edited
+pub mod Files
+pub mod Offset
