@@ -1,0 +1,4 @@
+pub mod Counts
+pub mod NameLaws
+pub mod Order
+pub mod Unknown

@@ -1,0 +1,6 @@
+pub mod Keys
+pub mod Names
+pub mod Steps
+pub mod Values
+pub mod Meaning
+pub mod Faults

@@ -1,0 +1,91 @@
+//! Names that stand twice.
+
+ghost use Rattle.std.specs.Prelude.{◌≡◌, ◌++◌, ℕ, List, map, MatchOption, IfOk, OnOk, unwrap_or};
+ghost use Rattle.std.specs.List.{count_by};
+ghost use Rattle.std.specs.Option.{option_to_list};
+ghost use Rattle.std.specs.Str.{bytes_eq};
+ghost use Rattle.std.specs.Ordering.{nat_cmp};
+ghost use Rattle.std.specs.Cmp.Lexicographic.{slice_cmp};
+ghost use Rattle.std.specs.BTreeMap as tree;
+ghost use Rattle.portfolio.specs.Faults as spec;
+
+use crate::collect::copied;
+use crate::manifest::{Manifest, Named};
+use std::alloc::Global;
+use std::collections::BTreeMap;
+use y2k_base::{Bytes, List, Memory};
+
+fn add_names(alloc: Global, names: &[Bytes], all: &mut List<Bytes>) -> Result<(), Memory>
+    ensures { OnOk result (all.new ≡ all.old ++ names.now) }
+{
+    for name in names {
+        all.push(copied(alloc, name.items())?)?;
+    }
+    Ok(())
+}
+
+fn add_files(alloc: Global, files: &[Named], all: &mut List<Bytes>) -> Result<(), Memory>
+    ensures { OnOk result (all.new ≡ all.old ++ map spec.file_of files.now) }
+{
+    for file in files {
+        all.push(copied(alloc, file.name.items())?)?;
+    }
+    Ok(())
+}
+
+fn add_seeds(alloc: Global, seeds: &Option<Bytes>, all: &mut List<Bytes>) -> Result<(), Memory>
+    ensures { OnOk result (all.new ≡ all.old ++ option_to_list seeds.now) }
+{
+    match seeds {
+        Some(name) => {
+            all.push(copied(alloc, name.items())?)?;
+            Ok(())
+        }
+        None => Ok(()),
+    }
+}
+
+/// The names of all files of a manifest.
+fn all_files(alloc: Global, manifest: &Manifest) -> Result<List<Bytes>, Memory>
+    ensures { IfOk result (λ all. all ≡ spec.all_files manifest.now) }
+{
+    let mut all = List::new(alloc);
+    add_names(alloc, manifest.programs.items(), &mut all)?;
+    add_files(alloc, manifest.copybooks.items(), &mut all)?;
+    add_seeds(alloc, &manifest.seeds, &mut all)?;
+    add_files(alloc, manifest.files.items(), &mut all)?;
+    Ok(all)
+}
+
+/// How often each name stands.
+fn counts<'a>(alloc: Global, names: &'a [Bytes]) -> Result<BTreeMap<&'a [u8], usize>, Memory>
+    ensures { IfOk result (λ m. (q : List ℕ) → unwrap_or (tree.get_by (λ k. slice_cmp nat_cmp q k.now) m) 0 ≡ count_by (λ name. bytes_eq q name) names.now) }
+{
+    let mut counts = BTreeMap::new(alloc);
+    for name in names {
+        *counts.entry(name.items())?.or_insert(0) += 1;
+    }
+    Ok(counts)
+}
+
+/// The least name that stands twice among these.
+fn least_twice(alloc: Global, names: &[Bytes]) -> Result<Option<Bytes>, Memory>
+    ensures { IfOk result (λ found. MatchOption found (spec.NonePasses (spec.is_twice_in names.now)) (spec.IsLeast (spec.is_twice_in names.now))) }
+{
+    let counts = counts(alloc, names)?;
+    for (name, count) in counts.iter() {
+        if *count >= 2 {
+            return Ok(Some(copied(alloc, *name)?));
+        }
+    }
+    Ok(None)
+}
+
+/// The least file name that stands twice in a manifest.
+pub fn repeated_file(alloc: Global, manifest: &Manifest) -> Result<Option<Bytes>, Memory>
+    ensures { IfOk result (λ found. MatchOption found (spec.NonePasses (spec.is_twice_in (spec.all_files manifest.now))) (spec.IsLeast (spec.is_twice_in (spec.all_files manifest.now)))) }
+{
+    let all = all_files(alloc, manifest)?;
+    let found = least_twice(alloc, all.items())?;
+    Ok(found)
+}
