@@ -20,8 +20,8 @@ first_twice (e ∷ es) = cond (nat_le 2 e.1) (Some e.0.now) (first_twice es)
 abbrev pub found_at : List ℕ → List Count → Option ℕ
 found_at q es = lookup (is_at (λ (k : Bor (List ℕ)). slice_cmp nat_cmp q k.now)) es
 
-abbrev pub is_counted_twice : List Count → List ℕ → Bool
-is_counted_twice es q = nat_le 2 (unwrap_or (found_at q es) 0)
+abbrev is_double : List Count → List ℕ → Bool
+is_double es q = nat_le 2 (unwrap_or (found_at q es) 0)
 
 abbrev pub key_cmp : Bor (List ℕ) → Bor (List ℕ) → Ordering
 key_cmp x y = slice_cmp nat_cmp x.now y.now
@@ -34,7 +34,7 @@ none_step : (b : Bool) (n : ℕ) (rest : Option ℕ) → nat_le 2 n ≡ false �
 none_step true n rest f g = f
 none_step false n rest f g = g
 
-pub none_twice : (es : List Count) → first_twice es ≡ None → NonePasses (is_counted_twice es)
+pub none_twice : (es : List Count) → first_twice es ≡ None → NonePasses (is_double es)
 none_twice [] h q = refl
 none_twice (e ∷ es) h q =
     let parts = once_first (nat_le 2 e.1) _ _ h in
@@ -45,21 +45,21 @@ absent q x [] g h = refl
 absent q x (e ∷ es) g h = rw (below _ q x.now e.0.now refl g h.0) (absent q x es g h.1)
 
 -- where the first name stands twice
-not_less : (e : Count) (es : List Count) (q : List ℕ) (o : Ordering) → AllByRecursion (λ y. key_cmp e.0 y ≡ Less) (keys_of es) → slice_cmp nat_cmp q e.0.now ≡ o → is_counted_twice (e ∷ es) q ≡ true → is_lt o ≡ false
+not_less : (e : Count) (es : List Count) (q : List ℕ) (o : Ordering) → AllByRecursion (λ y. key_cmp e.0 y ≡ Less) (keys_of es) → slice_cmp nat_cmp q e.0.now ≡ o → is_double (e ∷ es) q ≡ true → is_lt o ≡ false
 not_less e es q Less h c t =
-    let gone : is_counted_twice (e ∷ es) q ≡ false = rw (c, absent q e.0 es (ap is_gt c) h) refl in
+    let gone : is_double (e ∷ es) q ≡ false = rw (c, absent q e.0 es (ap is_gt c) h) refl in
     absurd (true≢false (sym t ∙ gone))
 not_less e es q Equal h c t = refl
 not_less e es q Greater h c t = refl
 
-first_is_least : (e : Count) (es : List Count) → nat_le 2 e.1 ≡ true → AllByRecursion (λ y. key_cmp e.0 y ≡ Less) (keys_of es) → IsLeast (is_counted_twice (e ∷ es)) e.0.now
+first_is_least : (e : Count) (es : List Count) → nat_le 2 e.1 ≡ true → AllByRecursion (λ y. key_cmp e.0 y ≡ Less) (keys_of es) → IsLeast (is_double (e ∷ es)) e.0.now
 first_is_least e es n h = (rw (itself e.0.now) n, λ q t. not_less e es q (slice_cmp nat_cmp q e.0.now) h refl t)
 
 -- where it doesn't
-key_more : (e : Count) (es : List Count) (k : List ℕ) (o : Ordering) → AllByRecursion (λ y. key_cmp e.0 y ≡ Less) (keys_of es) → slice_cmp nat_cmp k e.0.now ≡ o → is_counted_twice es k ≡ true → is_counted_twice (e ∷ es) k ≡ true
+key_more : (e : Count) (es : List Count) (k : List ℕ) (o : Ordering) → AllByRecursion (λ y. key_cmp e.0 y ≡ Less) (keys_of es) → slice_cmp nat_cmp k e.0.now ≡ o → is_double es k ≡ true → is_double (e ∷ es) k ≡ true
 key_more e es k Less h c t = rw c t
 key_more e es k Equal h c t =
-    let gone : is_counted_twice es k ≡ false = rw (absent k e.0 es (ap is_gt c) h) refl in
+    let gone : is_double es k ≡ false = rw (absent k e.0 es (ap is_gt c) h) refl in
     absurd (true≢false (sym t ∙ gone))
 key_more e es k Greater h c t = rw c t
 
@@ -67,21 +67,21 @@ other_more : (b : Bool) (n : ℕ) (rest : Option ℕ) → nat_le 2 n ≡ false �
 other_more true n rest f t = absurd (true≢false (sym t ∙ f))
 other_more false n rest f t = t
 
-later_is_least : (e : Count) (es : List Count) (k : List ℕ) → nat_le 2 e.1 ≡ false → AllByRecursion (λ y. key_cmp e.0 y ≡ Less) (keys_of es) → IsLeast (is_counted_twice es) k → IsLeast (is_counted_twice (e ∷ es)) k
+later_is_least : (e : Count) (es : List Count) (k : List ℕ) → nat_le 2 e.1 ≡ false → AllByRecursion (λ y. key_cmp e.0 y ≡ Less) (keys_of es) → IsLeast (is_double es) k → IsLeast (is_double (e ∷ es)) k
 later_is_least e es k n h least = (
       key_more e es k (slice_cmp nat_cmp k e.0.now) h refl least.0,
       λ q t. least.1 q (other_more (is_eq (slice_cmp nat_cmp q e.0.now)) e.1 _ n t),
     )
 
 mutual
-  pub found_twice : (es : List Count) (k : List ℕ) → IsStrictlySortedBy key_cmp (keys_of es) → first_twice es ≡ Some k → IsLeast (is_counted_twice es) k
   unfolding IsStrictlySortedBy
+  pub found_twice : (es : List Count) (k : List ℕ) → IsStrictlySortedBy key_cmp (keys_of es) → first_twice es ≡ Some k → IsLeast (is_double es) k
   found_twice [] k h f = absurd (true≢false (sym (ap is_some f)))
   found_twice (e ∷ es) k h f = found_step e es k (nat_le 2 e.1) refl h.0 h.1 f
 
   found_step : (e : Count) (es : List Count) (k : List ℕ) (b : Bool) → nat_le 2 e.1 ≡ b → AllByRecursion (λ y. key_cmp e.0 y ≡ Less) (keys_of es) → IsStrictlySortedBy key_cmp (keys_of es)
-      → cond b (Some e.0.now) (first_twice es) ≡ Some k → IsLeast (is_counted_twice (e ∷ es)) k
-  found_step e es k true n h more f = subst (λ (t : List ℕ). IsLeast (is_counted_twice (e ∷ es)) t) (ap (λ (o : Option (List ℕ)). unwrap_or o []) f) (first_is_least e es n h)
+      → cond b (Some e.0.now) (first_twice es) ≡ Some k → IsLeast (is_double (e ∷ es)) k
+  found_step e es k true n h more f = subst (λ (t : List ℕ). IsLeast (is_double (e ∷ es)) t) (ap (λ (o : Option (List ℕ)). unwrap_or o []) f) (first_is_least e es n h)
   found_step e es k false n h more f = later_is_least e es k n h (found_twice es k more f)
 
 pub least_alike : (f g : List ℕ → Bool) (k : List ℕ) → ((q : List ℕ) → f q ≡ g q) → IsLeast f k → IsLeast g k

@@ -1,4 +1,5 @@
 pub mod Counts
 pub mod NameLaws
 pub mod Order
+pub mod Refused
 pub mod Unknown

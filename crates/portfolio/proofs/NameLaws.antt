@@ -44,8 +44,8 @@ is_rest-parts : (n : Bool) (bs : List ℕ) → is_rest n bs ≡ all_parts n (sli
 is_rest-parts n [] = ends n
 is_rest-parts n (b ∷ bs) =
     elim (cases_Bool (b == 47)) [
-      | inl slash ↦ rw slash (after_slash n _ _ (is_rest-parts false bs ∙ all_parts-new (slice_split (λ c. c == 47) bs)))
-      | inr other ↦ rw other (chosen (is_name_byte b) _ _ (is_rest-parts (n || not (b == 46)) bs) ∙ onto b n _ (some_part bs))
+      | inl slash ↦ rw slash (after_slash n _ (slice_split (λ c. c == 47) bs) (is_rest-parts false bs ∙ all_parts-new (slice_split (λ c. c == 47) bs)))
+      | inr other ↦ rw other (chosen (is_name_byte b) _ _ (is_rest-parts (n || not (b == 46)) bs) ∙ onto b n (slice_split (λ c. c == 47) bs) (some_part bs))
     ]
 
 pub is_rest-name : (bs : List ℕ) → is_rest false bs ≡ is_shelf_name bs

@@ -74,8 +74,8 @@ later_is_least known e es k n least = (
     )
 
 mutual
-  pub found_unknown : (known : List ℕ → Bool) (es : List Entry) (k : List ℕ) → IsStrictlySortedBy string_cmp (keys_of es) → first_unknown known es ≡ Some k → IsLeast (is_new known es) k
   unfolding IsStrictlySortedBy
+  pub found_unknown : (known : List ℕ → Bool) (es : List Entry) (k : List ℕ) → IsStrictlySortedBy string_cmp (keys_of es) → first_unknown known es ≡ Some k → IsLeast (is_new known es) k
   found_unknown known [] k h f = absurd (true≢false (sym (ap is_some f)))
   found_unknown known (e ∷ es) k h f = found_step known e es k (known (string_bytes e.0)) refl h.0 h.1 f
 

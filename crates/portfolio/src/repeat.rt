@@ -1,12 +1,10 @@
 //! Names that stand twice.
 
-ghost use Rattle.std.specs.Prelude.{◌≡◌, ◌++◌, ℕ, List, map, MatchOption, IfOk, OnOk, unwrap_or};
+ghost use Rattle.std.specs.Prelude.{◌≡◌, ◌++◌, ℕ, List, map, MatchOption, IfOk, OnOk};
 ghost use Rattle.std.specs.List.{count_by};
 ghost use Rattle.std.specs.Option.{option_to_list};
 ghost use Rattle.std.specs.Str.{bytes_eq};
-ghost use Rattle.std.specs.Ordering.{nat_cmp};
-ghost use Rattle.std.specs.Cmp.Lexicographic.{slice_cmp};
-ghost use Rattle.std.specs.BTreeMap as tree;
+ghost use Rattle.portfolio.specs.Counts.{count_in, is_counted_twice};
 ghost use Rattle.portfolio.specs.Faults as spec;
 
 use crate::collect::copied;
@@ -59,7 +57,7 @@ fn all_files(alloc: Global, manifest: &Manifest) -> Result<List<Bytes>, Memory>
 
 /// How often each name stands.
 fn counts<'a>(alloc: Global, names: &'a [Bytes]) -> Result<BTreeMap<&'a [u8], usize>, Memory>
-    ensures { IfOk result (λ m. (q : List ℕ) → unwrap_or (tree.get_by (λ k. slice_cmp nat_cmp q k.now) m) 0 ≡ count_by (λ name. bytes_eq q name) names.now) }
+    ensures { IfOk result (λ m. (q : List ℕ) → count_in m q ≡ count_by (λ name. bytes_eq q name) names.now) }
 {
     let mut counts = BTreeMap::new(alloc);
     for name in names {
@@ -68,17 +66,25 @@ fn counts<'a>(alloc: Global, names: &'a [Bytes]) -> Result<BTreeMap<&'a [u8], us
     Ok(counts)
 }
 
-/// The least name that stands twice among these.
-fn least_twice(alloc: Global, names: &[Bytes]) -> Result<Option<Bytes>, Memory>
-    ensures { IfOk result (λ found. MatchOption found (spec.NonePasses (spec.is_twice_in names.now)) (spec.IsLeast (spec.is_twice_in names.now))) }
+/// The least name that is counted twice.
+fn least_counted(alloc: Global, counts: &BTreeMap<&[u8], usize>) -> Result<Option<Bytes>, Memory>
+    ensures { IfOk result (λ found. MatchOption found (spec.NonePasses (is_counted_twice counts.now)) (spec.IsLeast (is_counted_twice counts.now))) }
 {
-    let counts = counts(alloc, names)?;
     for (name, count) in counts.iter() {
         if *count >= 2 {
             return Ok(Some(copied(alloc, *name)?));
         }
     }
     Ok(None)
+}
+
+/// The least name that stands twice among these.
+fn least_twice(alloc: Global, names: &[Bytes]) -> Result<Option<Bytes>, Memory>
+    ensures { IfOk result (λ found. MatchOption found (spec.NonePasses (spec.is_twice_in names.now)) (spec.IsLeast (spec.is_twice_in names.now))) }
+{
+    let counts = counts(alloc, names)?;
+    let found = least_counted(alloc, &counts)?;
+    Ok(found)
 }
 
 /// The least file name that stands twice in a manifest.
