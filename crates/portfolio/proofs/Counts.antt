@@ -1,13 +1,17 @@
 -- The first name that is counted twice is the least one.
-use Rattle.std.proofs.Common.{◌≡◌, ℕ, Bool, true, false, cond, nat_le, List, [], ◌∷◌, Option, Some, None, is_some, unwrap_or, Bor, Ordering, Less, Equal, Greater, nat_cmp, is_eq, refl, sym, ap, ◌∙◌, subst}
-use Rattle.std.proofs.lemmas.Bool.{true≢false}
+use Rattle.std.proofs.Common.{◌≡◌, ℕ, ◌+◌, ◌<◌, Bool, true, false, cond, nat_le, List, [], ◌∷◌, length, get_or, take, Option, Some, None, is_some, unwrap_or, MatchOption, BTreeMap, Bor, Ordering, Less, Equal, Greater, nat_cmp, is_eq, bytes_eq, count_by, refl, sym, ap, ◌∙◌, subst, inl, inr}
+use Rattle.std.proofs.lemmas.Bool.{true≢false, cases_Bool, false_from_ne_true}
+use Rattle.std.proofs.lemmas.List.Sums.{count_by_more_yes, count_by_more_no}
+use Rattle.std.proofs.lemmas.Map.Text.{btree_map_updates_str}
+use Rattle.std.proofs.lemmas.Slice.Eq.{bytes_eq-Decides}
 use Rattle.std.specs.Cmp.Lexicographic.{slice_cmp}
-use Rattle.std.specs.BTreeMap.{is_at}
+use Rattle.std.specs.BTreeMap.{is_at, UpdatesBy}
 use Rattle.std.specs.List.{AllByRecursion}
 use Rattle.std.specs.List.Sorted.{IsStrictlySortedBy}
 use Rattle.std.specs.Map.{keys_of, lookup}
 use Rattle.std.specs.Ordering.{is_lt, is_gt}
 use Rattle.portfolio.specs.Faults.{IsLeast, NonePasses}
+use Rattle.portfolio.specs.Counts.{count_in}
 use Rattle.portfolio.proofs.Order.{below, itself}
 
 abbrev pub Count : Type 0
@@ -73,19 +77,47 @@ later_is_least e es k n h least = (
       λ q t. least.1 q (other_more (is_eq (slice_cmp nat_cmp q e.0.now)) e.1 _ n t),
     )
 
-mutual
-  unfolding IsStrictlySortedBy
-  pub found_twice : (es : List Count) (k : List ℕ) → IsStrictlySortedBy key_cmp (keys_of es) → first_twice es ≡ Some k → IsLeast (is_double es) k
-  found_twice [] k h f = absurd (true≢false (sym (ap is_some f)))
-  found_twice (e ∷ es) k h f = found_step e es k (nat_le 2 e.1) refl h.0 h.1 f
+found_step : (e : Count) (es : List Count) (k : List ℕ) (b : Bool) → nat_le 2 e.1 ≡ b → AllByRecursion (λ y. key_cmp e.0 y ≡ Less) (keys_of es) → (first_twice es ≡ Some k → IsLeast (is_double es) k)
+    → cond b (Some e.0.now) (first_twice es) ≡ Some k → IsLeast (is_double (e ∷ es)) k
+found_step e es k true n h more f = subst (λ (t : List ℕ). IsLeast (is_double (e ∷ es)) t) (ap (λ (o : Option (List ℕ)). unwrap_or o []) f) (first_is_least e es n h)
+found_step e es k false n h more f = later_is_least e es k n h (more f)
 
-  found_step : (e : Count) (es : List Count) (k : List ℕ) (b : Bool) → nat_le 2 e.1 ≡ b → AllByRecursion (λ y. key_cmp e.0 y ≡ Less) (keys_of es) → IsStrictlySortedBy key_cmp (keys_of es)
-      → cond b (Some e.0.now) (first_twice es) ≡ Some k → IsLeast (is_double (e ∷ es)) k
-  found_step e es k true n h more f = subst (λ (t : List ℕ). IsLeast (is_double (e ∷ es)) t) (ap (λ (o : Option (List ℕ)). unwrap_or o []) f) (first_is_least e es n h)
-  found_step e es k false n h more f = later_is_least e es k n h (found_twice es k more f)
+pub found_twice : (es : List Count) (k : List ℕ) → IsStrictlySortedBy key_cmp (keys_of es) → first_twice es ≡ Some k → IsLeast (is_double es) k
+unfolding IsStrictlySortedBy
+found_twice [] k h f = absurd (true≢false (sym (ap is_some f)))
+found_twice (e ∷ es) k h f = found_step e es k (nat_le 2 e.1) refl h.0 (λ g. found_twice es k h.1 g) f
 
 pub least_alike : (f g : List ℕ → Bool) (k : List ℕ) → ((q : List ℕ) → f q ≡ g q) → IsLeast f k → IsLeast g k
 least_alike f g k same least = (sym (same k) ∙ least.0, λ q t. least.1 q (same q ∙ t))
 
 pub none_alike : (f g : List ℕ → Bool) → ((q : List ℕ) → f q ≡ g q) → NonePasses f → NonePasses g
 none_alike f g same none q = sym (same q) ∙ none q
+
+pub match_alike : (f g : List ℕ → Bool) (o : Option (List ℕ)) → ((q : List ℕ) → f q ≡ g q) → MatchOption o (NonePasses f) (IsLeast f) → MatchOption o (NonePasses g) (IsLeast g)
+match_alike f g None same h = none_alike f g same h
+match_alike f g (Some k) same h = least_alike f g k same h
+
+itself_eq : (x : List ℕ) → bytes_eq x x ≡ true
+itself_eq x = (bytes_eq-Decides x x).1 refl
+
+other_way : (x y : List ℕ) → bytes_eq x y ≡ false → bytes_eq y x ≡ false
+other_way x y h = false_from_ne_true (bytes_eq y x) (λ e. true≢false (sym ((bytes_eq-Decides x y).1 (sym ((bytes_eq-Decides y x).0 e))) ∙ h))
+
+-- one more name, where f counts those before it, and g counts it once more
+pub next_count : (f g : List ℕ → ℕ) (names : List (List ℕ)) (i : ℕ) (name : List ℕ) → i < length names → name ≡ get_or names i name
+    → ((q : List ℕ) → f q ≡ count_by (λ n. bytes_eq q n) (take i names)) → ((q : List ℕ) → g q ≡ cond (bytes_eq name q) (f name + 1) (f q))
+    → (q : List ℕ) → g q ≡ count_by (λ n. bytes_eq q n) (take (i + 1) names)
+next_count f g names i name h is before step q =
+    elim (cases_Bool (bytes_eq name q)) [
+      | inl same ↦ subst (λ (t : List ℕ). g t ≡ count_by (λ n. bytes_eq t n) (take (i + 1) names)) ((bytes_eq-Decides name q).0 same)
+        (step name ∙ rw (itself_eq name) (ap (λ n. n + 1) (before name) ∙ sym (count_by_more_yes (λ n. bytes_eq name n) names i name h (subst (λ (t : List ℕ). bytes_eq name t ≡ true) is (itself_eq name)))))
+      | inr other ↦ step q ∙ rw other (before q ∙ sym (count_by_more_no (λ n. bytes_eq q n) names i name h (subst (λ (t : List ℕ). bytes_eq q t ≡ false) is (other_way name q other))))
+    ]
+
+chosen : (b : Bool) (n : ℕ) (o : Option ℕ) → unwrap_or (cond b (Some n) o) 0 ≡ cond b n (unwrap_or o 0)
+chosen true n o = refl
+chosen false n o = refl
+
+-- what a count that is put in place leaves
+pub put_count : (name : List ℕ) (old new : BTreeMap (Bor (List ℕ)) ℕ) (n : ℕ) → UpdatesBy key_cmp (λ k. slice_cmp nat_cmp name k.now) old new (Some n) → (q : List ℕ) → count_in new q ≡ cond (bytes_eq name q) n (count_in old q)
+put_count name old new n updates q = ap (λ (o : Option ℕ). unwrap_or o 0) (btree_map_updates_str name old new (Some n) updates q) ∙ chosen (bytes_eq name q) n _

@@ -48,5 +48,10 @@ is_rest-parts n (b ∷ bs) =
       | inr other ↦ rw other (chosen (is_name_byte b) _ _ (is_rest-parts (n || not (b == 46)) bs) ∙ onto b n (slice_split (λ c. c == 47) bs) (some_part bs))
     ]
 
+-- where nothing is left
+pub no_rest : (n : Bool) (bs : List ℕ) → length bs < 1 → n ≡ is_rest n bs
+no_rest n [] h = refl
+no_rest n (b ∷ bs) h = absurd (omega (arith, h))
+
 pub is_rest-name : (bs : List ℕ) → is_rest false bs ≡ is_shelf_name bs
 is_rest-name bs = is_rest-parts false bs ∙ all_parts-new (slice_split (λ b. b == 47) bs)

@@ -73,13 +73,12 @@ later_is_least known e es k n least = (
       λ q t. least.1 q (other_more (slice_cmp nat_cmp q (string_bytes e.0)) (view e.1) _ (not (known q)) (known_alike known q (string_bytes e.0) n) t),
     )
 
-mutual
-  unfolding IsStrictlySortedBy
-  pub found_unknown : (known : List ℕ → Bool) (es : List Entry) (k : List ℕ) → IsStrictlySortedBy string_cmp (keys_of es) → first_unknown known es ≡ Some k → IsLeast (is_new known es) k
-  found_unknown known [] k h f = absurd (true≢false (sym (ap is_some f)))
-  found_unknown known (e ∷ es) k h f = found_step known e es k (known (string_bytes e.0)) refl h.0 h.1 f
+found_step : (known : List ℕ → Bool) (e : Entry) (es : List Entry) (k : List ℕ) (b : Bool) → known (string_bytes e.0) ≡ b → AllByRecursion (λ y. string_cmp e.0 y ≡ Less) (keys_of es) → (first_unknown known es ≡ Some k → IsLeast (is_new known es) k)
+    → cond b (first_unknown known es) (Some (string_bytes e.0)) ≡ Some k → IsLeast (is_new known (e ∷ es)) k
+found_step known e es k true n h more f = later_is_least known e es k n (more f)
+found_step known e es k false n h more f = subst (λ (t : List ℕ). IsLeast (is_new known (e ∷ es)) t) (ap (λ (o : Option (List ℕ)). unwrap_or o []) f) (first_is_least known e es n h)
 
-  found_step : (known : List ℕ → Bool) (e : Entry) (es : List Entry) (k : List ℕ) (b : Bool) → known (string_bytes e.0) ≡ b → AllByRecursion (λ y. string_cmp e.0 y ≡ Less) (keys_of es) → IsStrictlySortedBy string_cmp (keys_of es)
-      → cond b (first_unknown known es) (Some (string_bytes e.0)) ≡ Some k → IsLeast (is_new known (e ∷ es)) k
-  found_step known e es k true n h more f = later_is_least known e es k n (found_unknown known es k more f)
-  found_step known e es k false n h more f = subst (λ (t : List ℕ). IsLeast (is_new known (e ∷ es)) t) (ap (λ (o : Option (List ℕ)). unwrap_or o []) f) (first_is_least known e es n h)
+pub found_unknown : (known : List ℕ → Bool) (es : List Entry) (k : List ℕ) → IsStrictlySortedBy string_cmp (keys_of es) → first_unknown known es ≡ Some k → IsLeast (is_new known es) k
+unfolding IsStrictlySortedBy
+found_unknown known [] k h f = absurd (true≢false (sym (ap is_some f)))
+found_unknown known (e ∷ es) k h f = found_step known e es k (known (string_bytes e.0)) refl h.0 (λ g. found_unknown known es k h.1 g) f

@@ -1,10 +1,8 @@
 //! Names that stand twice.
 
-ghost use Rattle.std.specs.Prelude.{◌≡◌, ◌++◌, ℕ, List, map, MatchOption, IfOk, OnOk};
-ghost use Rattle.std.specs.List.{count_by};
+ghost use Rattle.std.specs.Prelude.{◌≡◌, ◌++◌, map, MatchOption, IfOk, OnOk};
 ghost use Rattle.std.specs.Option.{option_to_list};
-ghost use Rattle.std.specs.Str.{bytes_eq};
-ghost use Rattle.portfolio.specs.Counts.{count_in, is_counted_twice};
+ghost use Rattle.portfolio.specs.Counts.{count_in, is_counted_twice, CountsAll, PutsCount};
 ghost use Rattle.portfolio.specs.Faults as spec;
 
 use crate::collect::copied;
@@ -55,13 +53,36 @@ fn all_files(alloc: Global, manifest: &Manifest) -> Result<List<Bytes>, Memory>
     Ok(all)
 }
 
+/// How often a name is counted.
+fn count_of(name: &[u8], counts: &BTreeMap<&[u8], usize>) -> usize
+    ensures { result ≡ count_in counts.now name.now }
+{
+    match counts.get(name) {
+        Some(count) => *count,
+        None => 0,
+    }
+}
+
+fn put_count<'a>(
+    name: &'a [u8],
+    count: usize,
+    counts: &mut BTreeMap<&'a [u8], usize>,
+) -> Result<(), Memory>
+    ensures { OnOk result (PutsCount name.now count counts.old counts.new) }
+{
+    counts.insert(name, count)?;
+    Ok(())
+}
+
 /// How often each name stands.
 fn counts<'a>(alloc: Global, names: &'a [Bytes]) -> Result<BTreeMap<&'a [u8], usize>, Memory>
-    ensures { IfOk result (λ m. (q : List ℕ) → count_in m q ≡ count_by (λ name. bytes_eq q name) names.now) }
+    ensures { IfOk result (CountsAll names.now) }
 {
     let mut counts = BTreeMap::new(alloc);
     for name in names {
-        *counts.entry(name.items())?.or_insert(0) += 1;
+        let key = name.items();
+        let before = count_of(key, &counts);
+        put_count(key, before + 1, &mut counts)?;
     }
     Ok(counts)
 }

@@ -14,10 +14,10 @@ returns-in_err-check_repeated-clause-err c =
     let given : c.from_residual-in_err-check_repeated.result ≡ Err fault = search rules in
     let names = subst (λ (m : Manifest). find (has_bad_name m) all_keys ≡ None) c.in_ok-manifest.ensures c.in_ok-check_names.ensures.ok in
     let stands = subst (λ (m : Manifest). IsOfKind NameTwice (IsLeast (is_twice_in (all_files m))) fault) c.in_ok-manifest.ensures c.in_err-check_repeated.ensures.err in
-    rw given (of_kind NameTwice (table_view c.args.table.now) fault (c.in_ok-check_keys.ensures.ok, c.in_ok-check_values.ensures.ok, names, c.in_ok-check_unknown.ensures.ok) stands)
+    rw given (of_kind NameTwice (table_view c.args.table.now) fault (c.in_ok-check_keys.ensures.ok, (c.in_ok-check_values.ensures.ok, (names, c.in_ok-check_unknown.ensures.ok))) stands)
 
 pub returns-clause-free : goal.returns-clause-free
 returns-clause-free c =
     let names = subst (λ (m : Manifest). find (has_bad_name m) all_keys ≡ None) c.in_ok-manifest.ensures c.in_ok-check_names.ensures.ok in
     let once = subst (λ (m : Manifest). NonePasses (is_twice_in (all_files m))) c.in_ok-manifest.ensures c.in_ok-check_repeated.ensures.ok in
-    ((c.in_ok-check_keys.ensures.ok, c.in_ok-check_values.ensures.ok, names, c.in_ok-check_unknown.ensures.ok), once)
+    ((c.in_ok-check_keys.ensures.ok, (c.in_ok-check_values.ensures.ok, (names, c.in_ok-check_unknown.ensures.ok))), once)

@@ -1,4 +1,4 @@
-use Rattle.std.proofs.Common.{◌≡◌, List, [], ◌∷◌, length, Some, option_map, refl, ap, sym, ◌∙◌, suc}
+use Rattle.std.proofs.Common.{◌≡◌, List, [], ◌∷◌, length, Some, option_map, refl, ap, sym, ◌∙◌, suc, rules}
 use Rattle.toml.specs.Data.{as_array}
 use Rattle.toml.specs.View.{view, array_view, items_view}
 use Rattle.toml.specs.declared.value.Value.{Value}
@@ -12,4 +12,5 @@ length-texts (v ∷ vs) = ap suc (length-texts vs)
 pub returns-in-Some : goal.returns-in-Some
 returns-in-Some c =
     let found : as_array (view c.args.value.now) ≡ Some (array_view c.in-Some.items.now) = sym c.as_array.ensures ∙ ap (option_map (λ v. array_view v.now)) c.in-Some.is in
-    rw found (c.len.ensures ∙ sym (length-texts c.in-Some.items.now.items))
+    let count : c.len.result ≡ length c.in-Some.items.now.items = search rules in
+    rw found (count ∙ sym (length-texts c.in-Some.items.now.items))
