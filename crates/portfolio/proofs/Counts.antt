@@ -73,9 +73,9 @@ other_more false n rest f t = t
 
 later_is_least : (e : Count) (es : List Count) (k : List ℕ) → nat_le 2 e.1 ≡ false → AllByRecursion (λ y. key_cmp e.0 y ≡ Less) (keys_of es) → IsLeast (is_double es) k → IsLeast (is_double (e ∷ es)) k
 later_is_least e es k n h least = (
-      key_more e es k (slice_cmp nat_cmp k e.0.now) h refl least.0,
-      λ q t. least.1 q (other_more (is_eq (slice_cmp nat_cmp q e.0.now)) e.1 _ n t),
-    )
+  key_more e es k (slice_cmp nat_cmp k e.0.now) h refl least.0,
+  λ q t. least.1 q (other_more (is_eq (slice_cmp nat_cmp q e.0.now)) e.1 _ n t),
+)
 
 found_step : (e : Count) (es : List Count) (k : List ℕ) (b : Bool) → nat_le 2 e.1 ≡ b → AllByRecursion (λ y. key_cmp e.0 y ≡ Less) (keys_of es) → (first_twice es ≡ Some k → IsLeast (is_double es) k)
     → cond b (Some e.0.now) (first_twice es) ≡ Some k → IsLeast (is_double (e ∷ es)) k
@@ -110,7 +110,7 @@ pub next_count : (f g : List ℕ → ℕ) (names : List (List ℕ)) (i : ℕ) (n
 next_count f g names i name h is before step q =
     elim (cases_Bool (bytes_eq name q)) [
       | inl same ↦ subst (λ (t : List ℕ). g t ≡ count_by (λ n. bytes_eq t n) (take (i + 1) names)) ((bytes_eq-Decides name q).0 same)
-        (step name ∙ rw (itself_eq name) (ap (λ n. n + 1) (before name) ∙ sym (count_by_more_yes (λ n. bytes_eq name n) names i name h (subst (λ (t : List ℕ). bytes_eq name t ≡ true) is (itself_eq name)))))
+          (step name ∙ rw (itself_eq name) (ap (λ n. n + 1) (before name) ∙ sym (count_by_more_yes (λ n. bytes_eq name n) names i name h (subst (λ (t : List ℕ). bytes_eq name t ≡ true) is (itself_eq name)))))
       | inr other ↦ step q ∙ rw other (before q ∙ sym (count_by_more_no (λ n. bytes_eq q n) names i name h (subst (λ (t : List ℕ). bytes_eq q t ≡ false) is (other_way name q other))))
     ]
 

@@ -69,9 +69,9 @@ first_is_least known e es n h = (rw (itself (string_bytes e.0), n) refl, λ q t.
 
 later_is_least : (known : List ℕ → Bool) (e : Entry) (es : List Entry) (k : List ℕ) → known (string_bytes e.0) ≡ true → IsLeast (is_new known es) k → IsLeast (is_new known (e ∷ es)) k
 later_is_least known e es k n least = (
-      key_more (slice_cmp nat_cmp k (string_bytes e.0)) (view e.1) _ (not (known k)) least.0,
-      λ q t. least.1 q (other_more (slice_cmp nat_cmp q (string_bytes e.0)) (view e.1) _ (not (known q)) (known_alike known q (string_bytes e.0) n) t),
-    )
+  key_more (slice_cmp nat_cmp k (string_bytes e.0)) (view e.1) _ (not (known k)) least.0,
+  λ q t. least.1 q (other_more (slice_cmp nat_cmp q (string_bytes e.0)) (view e.1) _ (not (known q)) (known_alike known q (string_bytes e.0) n) t),
+)
 
 found_step : (known : List ℕ → Bool) (e : Entry) (es : List Entry) (k : List ℕ) (b : Bool) → known (string_bytes e.0) ≡ b → AllByRecursion (λ y. string_cmp e.0 y ≡ Less) (keys_of es) → (first_unknown known es ≡ Some k → IsLeast (is_new known es) k)
     → cond b (first_unknown known es) (Some (string_bytes e.0)) ≡ Some k → IsLeast (is_new known (e ∷ es)) k

@@ -150,9 +150,7 @@ pub fn is_table_of(entry: Entry, value: &Value) -> bool
 fn is_group(value: &Value) -> bool
     ensures { result ≡ spec.is_group (view value.now) }
 {
-    is_table_of(Entry::Part, value)
-        && value.get("pivot").is_some()
-        && value.get("items").is_some()
+    is_table_of(Entry::Part, value) && value.get("pivot").is_some() && value.get("items").is_some()
 }
 
 fn are_groups(items: &[Value]) -> bool

@@ -1,6 +1,7 @@
 use super::*;
 use std::alloc::Global;
 use std::test::Fail;
+use y2k_base::Bytes;
 
 /// What a manifest has at least.
 const LEAST: &str = "pivot = 50\nprograms = [\"A.cbl\"]\n";
@@ -9,10 +10,12 @@ const LEAST: &str = "pivot = 50\nprograms = [\"A.cbl\"]\n";
 fn is_refused(alloc: Global, text: &str, kind: ManifestKind, key: &[u8]) -> Result<bool, Fail> {
     let table = toml::table_from_str(alloc, text)?;
     match &read_manifest(alloc, &table) {
-        Err(ManifestFault::At {
-            kind: found,
-            key: named,
-        }) => Ok(*found == kind && named.items() == key),
+        Err(
+            ManifestFault::At {
+                kind: found,
+                key: named,
+            },
+        ) => Ok(*found == kind && named.items() == key),
         _ => Ok(false),
     }
 }
@@ -37,6 +40,10 @@ fn may_be_named(alloc: Global, name: &str) -> Result<bool, Fail> {
     Ok(read_manifest(alloc, &table).is_ok())
 }
 
+fn is_text(bytes: &Bytes, text: &[u8]) -> bool {
+    bytes.items() == text
+}
+
 /// The text of a manifest with so many programs.
 fn many_programs(alloc: Global, count: u32) -> Result<String, Fail> {
     let mut text = String::from_str(alloc, "version = 1\npivot = 99\nprograms = [")?;
@@ -50,7 +57,8 @@ fn many_programs(alloc: Global, count: u32) -> Result<String, Fail> {
 #[test]
 fn a_whole_manifest_is_read(rt: HostRuntime) -> Result<(), Fail> {
     let alloc = rt.alloc();
-    let text = "version = 1\npivot = 50\nprograms = [\"SELECTP.cbl\", \"REPORTP.cbl\"]\nseeds = \"seeds.csv\"\nwindow = [\"SELECTP.HIRED OF IN-REC\"]\n[copybooks]\nEMPREC = \"EMPREC.cpy\"\n\"LIB/B\" = \"b.cpy\"\n[files]\nREPOUT = \"out/repout.dat\"\nEMPIN = \"empin.dat\"\n[jobs]\nNIGHT = [\"SELECTP\", \"REPORTP\", \"SELECTP\"]\nEMPTY = []\n";
+    let text =
+        "version = 1\npivot = 50\nprograms = [\"SELECTP.cbl\", \"REPORTP.cbl\"]\nseeds = \"seeds.csv\"\nwindow = [\"SELECTP.HIRED OF IN-REC\"]\n[copybooks]\nEMPREC = \"EMPREC.cpy\"\n\"LIB/B\" = \"b.cpy\"\n[files]\nREPOUT = \"out/repout.dat\"\nEMPIN = \"empin.dat\"\n[jobs]\nNIGHT = [\"SELECTP\", \"REPORTP\", \"SELECTP\"]\nEMPTY = []\n";
     let table = toml::table_from_str(alloc, text)?;
     let manifest = match read_manifest(alloc, &table) {
         Ok(manifest) => manifest,
@@ -59,16 +67,21 @@ fn a_whole_manifest_is_read(rt: HostRuntime) -> Result<(), Fail> {
     assert_eq!(rt; manifest.version, 1);
     assert_eq!(rt; manifest.pivot, 50);
     assert_eq!(rt; manifest.programs.len(), 2);
-    assert!(rt; manifest.programs.items()[1].items() == b"REPORTP.cbl");
+    assert!(rt; is_text(&manifest.programs.items()[1], b"REPORTP.cbl"));
     assert_eq!(rt; manifest.copybooks.len(), 2);
-    assert!(rt; manifest.copybooks.items()[1].key.items() == b"LIB/B");
-    assert!(rt; manifest.copybooks.items()[1].name.items() == b"b.cpy");
+    assert!(rt; is_text(&manifest.copybooks.items()[1].key, b"LIB/B"));
+    assert!(rt; is_text(&manifest.copybooks.items()[1].name, b"b.cpy"));
     assert!(rt; manifest.seeds.is_some());
     assert_eq!(rt; manifest.window.len(), 1);
     assert_eq!(rt; manifest.window.items()[0].pivot, 50);
-    assert!(rt; manifest.window.items()[0].items.items()[0].items() == b"SELECTP.HIRED OF IN-REC");
+    assert!(rt;
+        is_text(
+            &manifest.window.items()[0].items.items()[0],
+            b"SELECTP.HIRED OF IN-REC"
+        )
+    );
     assert_eq!(rt; manifest.files.len(), 2);
-    assert!(rt; manifest.files.items()[0].key.items() == b"EMPIN");
+    assert!(rt; is_text(&manifest.files.items()[0].key, b"EMPIN"));
     assert_eq!(rt; manifest.jobs.len(), 2);
     assert_eq!(rt; manifest.jobs.items()[1].programs.len(), 3);
     Ok(())
@@ -77,7 +90,8 @@ fn a_whole_manifest_is_read(rt: HostRuntime) -> Result<(), Fail> {
 #[test]
 fn windows_go_by_the_version(rt: HostRuntime) -> Result<(), Fail> {
     let alloc = rt.alloc();
-    let text = "version = 2\npivot = 50\nprograms = [\"A.cbl\"]\n[[window]]\npivot = 1\nitems = []\n[[window]]\npivot = 99\nitems = [\"A.B\", \"A\"]\n";
+    let text =
+        "version = 2\npivot = 50\nprograms = [\"A.cbl\"]\n[[window]]\npivot = 1\nitems = []\n[[window]]\npivot = 99\nitems = [\"A.B\", \"A\"]\n";
     let table = toml::table_from_str(alloc, text)?;
     let manifest = match read_manifest(alloc, &table) {
         Ok(manifest) => manifest,
@@ -89,36 +103,182 @@ fn windows_go_by_the_version(rt: HostRuntime) -> Result<(), Fail> {
     assert!(rt; manifest.seeds.is_none());
     assert!(rt; is_read(alloc, 1, "window = []")?);
     assert!(rt; is_read(alloc, 2, "window = []")?);
-    assert!(rt; refuses(alloc, "window = [\"A.B\"]", ManifestKind::BadValue, b"window")?);
+    assert!(rt;
+        refuses(
+            alloc,
+            "window = [\"A.B\"]",
+            ManifestKind::BadValue,
+            b"window"
+        )?
+    );
     assert!(rt; !is_read(alloc, 1, "[[window]]\npivot = 50\nitems = [\"A.B\"]")?);
-    assert!(rt; refuses(alloc, "window = [{ pivot = 5 }]", ManifestKind::BadValue, b"window")?);
-    assert!(rt; refuses(alloc, "window = [{ items = [] }]", ManifestKind::BadValue, b"window")?);
-    assert!(rt; refuses(alloc, "window = [{ pivot = 100, items = [] }]", ManifestKind::BadValue, b"window")?);
-    assert!(rt; refuses(alloc, "window = [{ pivot = 5, items = [1] }]", ManifestKind::BadValue, b"window")?);
-    assert!(rt; refuses(alloc, "window = [{ pivot = 5, items = [], name = 1 }]", ManifestKind::BadValue, b"window")?);
+    assert!(rt;
+        refuses(
+            alloc,
+            "window = [{ pivot = 5 }]",
+            ManifestKind::BadValue,
+            b"window"
+        )?
+    );
+    assert!(rt;
+        refuses(
+            alloc,
+            "window = [{ items = [] }]",
+            ManifestKind::BadValue,
+            b"window"
+        )?
+    );
+    assert!(rt;
+        refuses(
+            alloc,
+            "window = [{ pivot = 100, items = [] }]",
+            ManifestKind::BadValue,
+            b"window"
+        )?
+    );
+    assert!(rt;
+        refuses(
+            alloc,
+            "window = [{ pivot = 5, items = [1] }]",
+            ManifestKind::BadValue,
+            b"window"
+        )?
+    );
+    assert!(rt;
+        refuses(
+            alloc,
+            "window = [{ pivot = 5, items = [], name = 1 }]",
+            ManifestKind::BadValue,
+            b"window"
+        )?
+    );
     Ok(())
 }
 
 #[test]
 fn keys_that_are_missing_or_bad_are_named(rt: HostRuntime) -> Result<(), Fail> {
     let alloc = rt.alloc();
-    assert!(rt; is_refused(alloc, "version = 1\nprograms = [\"A\"]\n", ManifestKind::MissingKey, b"pivot")?);
-    assert!(rt; is_refused(alloc, "version = 1\npivot = 2\n", ManifestKind::MissingKey, b"programs")?);
-    assert!(rt; is_refused(alloc, "seeds = 1\nzebra = 1\n", ManifestKind::MissingKey, b"version")?);
-    assert!(rt; is_refused(alloc, "version = 1\npivot = 100\nprograms = [\"A\"]\n", ManifestKind::BadValue, b"pivot")?);
-    assert!(rt; is_refused(alloc, "version = 1\npivot = 0\nprograms = []\n", ManifestKind::BadValue, b"pivot")?);
-    assert!(rt; is_refused(alloc, "version = 3\npivot = 1\nprograms = [\"A\"]\n", ManifestKind::BadValue, b"version")?);
-    assert!(rt; is_refused(alloc, "version = 257\npivot = 1\nprograms = [\"A\"]\n", ManifestKind::BadValue, b"version")?);
-    assert!(rt; is_refused(alloc, "version = -1\npivot = 1\nprograms = [\"A\"]\n", ManifestKind::BadValue, b"version")?);
-    assert!(rt; is_refused(alloc, "version = 1\npivot = 1\nprograms = [\"A\", 1]\n", ManifestKind::BadValue, b"programs")?);
-    assert!(rt; is_refused(alloc, "version = 1\npivot = 1\nprograms = []\n", ManifestKind::BadValue, b"programs")?);
-    assert!(rt; refuses(alloc, "copybooks = { a = \"x\" }", ManifestKind::BadValue, b"copybooks")?);
-    assert!(rt; refuses(alloc, "copybooks = [\"x\"]", ManifestKind::BadValue, b"copybooks")?);
-    assert!(rt; is_read(alloc, 1, "copybooks = { \"A-1\" = \"x\" }\nfiles = { a = \"y\" }")?);
+    assert!(rt;
+        is_refused(
+            alloc,
+            "version = 1\nprograms = [\"A\"]\n",
+            ManifestKind::MissingKey,
+            b"pivot"
+        )?
+    );
+    assert!(rt;
+        is_refused(
+            alloc,
+            "version = 1\npivot = 2\n",
+            ManifestKind::MissingKey,
+            b"programs"
+        )?
+    );
+    assert!(rt;
+        is_refused(
+            alloc,
+            "seeds = 1\nzebra = 1\n",
+            ManifestKind::MissingKey,
+            b"version"
+        )?
+    );
+    assert!(rt;
+        is_refused(
+            alloc,
+            "version = 1\npivot = 100\nprograms = [\"A\"]\n",
+            ManifestKind::BadValue,
+            b"pivot"
+        )?
+    );
+    assert!(rt;
+        is_refused(
+            alloc,
+            "version = 1\npivot = 0\nprograms = []\n",
+            ManifestKind::BadValue,
+            b"pivot"
+        )?
+    );
+    assert!(rt;
+        is_refused(
+            alloc,
+            "version = 3\npivot = 1\nprograms = [\"A\"]\n",
+            ManifestKind::BadValue,
+            b"version"
+        )?
+    );
+    assert!(rt;
+        is_refused(
+            alloc,
+            "version = 257\npivot = 1\nprograms = [\"A\"]\n",
+            ManifestKind::BadValue,
+            b"version"
+        )?
+    );
+    assert!(rt;
+        is_refused(
+            alloc,
+            "version = -1\npivot = 1\nprograms = [\"A\"]\n",
+            ManifestKind::BadValue,
+            b"version"
+        )?
+    );
+    assert!(rt;
+        is_refused(
+            alloc,
+            "version = 1\npivot = 1\nprograms = [\"A\", 1]\n",
+            ManifestKind::BadValue,
+            b"programs"
+        )?
+    );
+    assert!(rt;
+        is_refused(
+            alloc,
+            "version = 1\npivot = 1\nprograms = []\n",
+            ManifestKind::BadValue,
+            b"programs"
+        )?
+    );
+    assert!(rt;
+        refuses(
+            alloc,
+            "copybooks = { a = \"x\" }",
+            ManifestKind::BadValue,
+            b"copybooks"
+        )?
+    );
+    assert!(rt;
+        refuses(
+            alloc,
+            "copybooks = [\"x\"]",
+            ManifestKind::BadValue,
+            b"copybooks"
+        )?
+    );
+    assert!(rt;
+        is_read(
+            alloc,
+            1,
+            "copybooks = { \"A-1\" = \"x\" }\nfiles = { a = \"y\" }"
+        )?
+    );
     assert!(rt; refuses(alloc, "seeds = [\"x\"]", ManifestKind::BadValue, b"seeds")?);
     assert!(rt; refuses(alloc, "files = { A = 1 }", ManifestKind::BadValue, b"files")?);
-    assert!(rt; refuses(alloc, "jobs = { A = \"A\" }", ManifestKind::BadValue, b"jobs")?);
-    assert!(rt; refuses(alloc, "jobs = 1\nfiles = 1\nseeds = \"/\"", ManifestKind::BadValue, b"files")?);
+    assert!(rt;
+        refuses(
+            alloc,
+            "jobs = { A = \"A\" }",
+            ManifestKind::BadValue,
+            b"jobs"
+        )?
+    );
+    assert!(rt;
+        refuses(
+            alloc,
+            "jobs = 1\nfiles = 1\nseeds = \"/\"",
+            ManifestKind::BadValue,
+            b"files"
+        )?
+    );
     Ok(())
 }
 
@@ -145,15 +305,77 @@ fn names_are_parts_of_letters_digits_and_marks(rt: HostRuntime) -> Result<(), Fa
 #[test]
 fn faults_go_by_their_kinds(rt: HostRuntime) -> Result<(), Fail> {
     let alloc = rt.alloc();
-    assert!(rt; refuses(alloc, "seeds = \"/\"\njobs = 1", ManifestKind::BadValue, b"jobs")?);
-    assert!(rt; refuses(alloc, "files = { A = \"..\" }\nseeds = \"/\"\nApple = 1", ManifestKind::BadName, b"seeds")?);
-    assert!(rt; refuses(alloc, "files = { A = \"..\" }\nApple = 1", ManifestKind::BadName, b"files")?);
-    assert!(rt; refuses(alloc, "copybooks = { A = \"\" }", ManifestKind::BadName, b"copybooks")?);
-    assert!(rt; refuses(alloc, "apple = 1\nZebra = 1\nseeds = \"A.cbl\"", ManifestKind::UnknownKey, b"Zebra")?);
-    assert!(rt; refuses(alloc, "seeds = \"A.cbl\"", ManifestKind::NameTwice, b"A.cbl")?);
-    assert!(rt; refuses(alloc, "copybooks = { A = \"y\", B = \"x\" }\nfiles = { A = \"y\", B = \"x\" }", ManifestKind::NameTwice, b"x")?);
-    assert!(rt; is_refused(alloc, "version = 1\npivot = 1\nprograms = [\"A\", \"B\", \"A\"]\n", ManifestKind::NameTwice, b"A")?);
-    assert!(rt; is_read(alloc, 2, "jobs = { A = [\"A\", \"A\"], \"A.cbl\" = [\"no name\"] }\nseeds = \"a.cbl\"")?);
+    assert!(rt;
+        refuses(
+            alloc,
+            "seeds = \"/\"\njobs = 1",
+            ManifestKind::BadValue,
+            b"jobs"
+        )?
+    );
+    assert!(rt;
+        refuses(
+            alloc,
+            "files = { A = \"..\" }\nseeds = \"/\"\nApple = 1",
+            ManifestKind::BadName,
+            b"seeds"
+        )?
+    );
+    assert!(rt;
+        refuses(
+            alloc,
+            "files = { A = \"..\" }\nApple = 1",
+            ManifestKind::BadName,
+            b"files"
+        )?
+    );
+    assert!(rt;
+        refuses(
+            alloc,
+            "copybooks = { A = \"\" }",
+            ManifestKind::BadName,
+            b"copybooks"
+        )?
+    );
+    assert!(rt;
+        refuses(
+            alloc,
+            "apple = 1\nZebra = 1\nseeds = \"A.cbl\"",
+            ManifestKind::UnknownKey,
+            b"Zebra"
+        )?
+    );
+    assert!(rt;
+        refuses(
+            alloc,
+            "seeds = \"A.cbl\"",
+            ManifestKind::NameTwice,
+            b"A.cbl"
+        )?
+    );
+    assert!(rt;
+        refuses(
+            alloc,
+            "copybooks = { A = \"y\", B = \"x\" }\nfiles = { A = \"y\", B = \"x\" }",
+            ManifestKind::NameTwice,
+            b"x"
+        )?
+    );
+    assert!(rt;
+        is_refused(
+            alloc,
+            "version = 1\npivot = 1\nprograms = [\"A\", \"B\", \"A\"]\n",
+            ManifestKind::NameTwice,
+            b"A"
+        )?
+    );
+    assert!(rt;
+        is_read(
+            alloc,
+            2,
+            "jobs = { A = [\"A\", \"A\"], \"A.cbl\" = [\"no name\"] }\nseeds = \"a.cbl\""
+        )?
+    );
     Ok(())
 }
 
