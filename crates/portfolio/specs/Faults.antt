@@ -106,6 +106,11 @@ abbrev pub HasFault : Members → ManifestFault → Type 0
 HasFault tree (At kind key) = IsFreeBefore kind tree × Stands kind tree key
 HasFault tree Memory = Unit {0}
 
+-- the table has no other fault than this one
+abbrev pub IsOnlyFault : Members → ManifestFault → Type 0
+IsOnlyFault tree (At kind key) = (HasNoFault tree → ⊥) × ((other : ManifestKind) (named : List ℕ) → HasFault tree (At other named) → (other ≡ kind) × (named ≡ key))
+IsOnlyFault tree Memory = Unit {0}
+
 -- this fault, or want of memory
 abbrev pub IsRefusal : ManifestKind → List ℕ → ManifestFault → Type 0
 IsRefusal kind key (At other named) = (other ≡ kind) × (named ≡ key)

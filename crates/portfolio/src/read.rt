@@ -29,6 +29,7 @@ pub fn read_manifest(alloc: Global, table: &Table) -> Result<Manifest, ManifestF
     ensures ok { IfOk result (λ manifest. manifest ≡ manifest_of (table_view table.now)) }
     ensures free { OnOk result (spec.HasNoFault (table_view table.now)) }
     ensures err { IfErr result (spec.HasFault (table_view table.now)) }
+    ensures only { IfErr result (spec.IsOnlyFault (table_view table.now)) }
 {
     check_keys(alloc, table)?;
     check_values(alloc, table)?;
