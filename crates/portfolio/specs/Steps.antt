@@ -1,5 +1,5 @@
 -- Names read byte by byte. `is_named` says whether the last part has more than dots.
-use Rattle.std.specs.Prelude.{ℕ, Bool, true, false, not, ◌&&◌, ◌||◌, ◌==◌, List, [], ◌∷◌, if◌then◌else◌}
+use Rattle.std.specs.Prelude.{ℕ, Bool, false, not, ◌&&◌, ◌||◌, ◌==◌, List, [], ◌∷◌, if◌then◌else◌}
 use Rattle.portfolio.specs.Names.{is_name_byte}
 
 abbrev pub may_follow : Bool → ℕ → Bool

@@ -7,10 +7,12 @@ use y2k_base::Bytes;
 fn is_refused(alloc: Global, text: &str, kind: ManifestKind, key: &[u8]) -> Result<bool, Fail> {
     let table = toml::table_from_str(alloc, text)?;
     match &read_manifest(alloc, &table) {
-        Err(ManifestFault::At {
-            kind: found,
-            key: named,
-        }) => Ok(*found == kind && named.items() == key),
+        Err(
+            ManifestFault::At {
+                kind: found,
+                key: named,
+            },
+        ) => Ok(*found == kind && named.items() == key),
         _ => Ok(false),
     }
 }
@@ -31,19 +33,39 @@ fn reads(alloc: Global, lines: &str) -> Result<bool, Fail> {
 }
 
 fn has_bad_value(alloc: Global, lines: &str, key: &[u8]) -> Result<bool, Fail> {
-    is_refused(alloc, with(alloc, lines)?.as_str(), ManifestKind::BadValue, key)
+    is_refused(
+        alloc,
+        with(alloc, lines)?.as_str(),
+        ManifestKind::BadValue,
+        key,
+    )
 }
 
 fn has_bad_name(alloc: Global, lines: &str, key: &[u8]) -> Result<bool, Fail> {
-    is_refused(alloc, with(alloc, lines)?.as_str(), ManifestKind::BadName, key)
+    is_refused(
+        alloc,
+        with(alloc, lines)?.as_str(),
+        ManifestKind::BadName,
+        key,
+    )
 }
 
 fn has_unknown_key(alloc: Global, lines: &str, key: &[u8]) -> Result<bool, Fail> {
-    is_refused(alloc, with(alloc, lines)?.as_str(), ManifestKind::UnknownKey, key)
+    is_refused(
+        alloc,
+        with(alloc, lines)?.as_str(),
+        ManifestKind::UnknownKey,
+        key,
+    )
 }
 
 fn has_name_twice(alloc: Global, lines: &str, name: &[u8]) -> Result<bool, Fail> {
-    is_refused(alloc, with(alloc, lines)?.as_str(), ManifestKind::NameTwice, name)
+    is_refused(
+        alloc,
+        with(alloc, lines)?.as_str(),
+        ManifestKind::NameTwice,
+        name,
+    )
 }
 
 /// Whether the value of one of the needed keys is refused.
@@ -117,7 +139,12 @@ fn a_whole_manifest_is_read(rt: HostRuntime) -> Result<(), Fail> {
     assert!(rt; manifest.seeds.is_some());
     assert_eq!(rt; manifest.window.len(), 1);
     assert_eq!(rt; manifest.window.items()[0].pivot, 50);
-    assert!(rt; is_text(&manifest.window.items()[0].items.items()[0], b"SELECTP.HIRED OF IN-REC"));
+    assert!(rt;
+        is_text(
+            &manifest.window.items()[0].items.items()[0],
+            b"SELECTP.HIRED OF IN-REC"
+        )
+    );
     assert!(rt; is_text(&manifest.files.items()[0].key, b"EMPIN"));
     assert_eq!(rt; manifest.jobs.items()[1].programs.len(), 3);
     Ok(())
@@ -140,7 +167,13 @@ fn a_window_goes_by_the_version(rt: HostRuntime) -> Result<(), Fail> {
     assert!(rt; has_bad_value(alloc, "window = [{ items = [] }]", b"window")?);
     assert!(rt; has_bad_value(alloc, "window = [{ pivot = 100, items = [] }]", b"window")?);
     assert!(rt; has_bad_value(alloc, "window = [{ pivot = 5, items = [1] }]", b"window")?);
-    assert!(rt; has_bad_value(alloc, "window = [{ pivot = 5, items = [], x = 1 }]", b"window")?);
+    assert!(rt;
+        has_bad_value(
+            alloc,
+            "window = [{ pivot = 5, items = [], x = 1 }]",
+            b"window"
+        )?
+    );
     let grouped =
         "version = 1\npivot = 5\nprograms = [\"A\"]\nwindow = [{ pivot = 5, items = [] }]";
     assert!(rt; is_refused(alloc, grouped, ManifestKind::BadValue, b"window")?);
@@ -153,8 +186,22 @@ fn the_needed_keys_are_there_and_in_range(rt: HostRuntime) -> Result<(), Fail> {
     let without_pivot = "version = 1\nprograms = [\"A\"]\n";
     assert!(rt; is_refused(alloc, without_pivot, ManifestKind::MissingKey, b"pivot")?);
     let without_programs = "version = 1\npivot = 2\n";
-    assert!(rt; is_refused(alloc, without_programs, ManifestKind::MissingKey, b"programs")?);
-    assert!(rt; is_refused(alloc, "seeds = 1\nz = 1\n", ManifestKind::MissingKey, b"version")?);
+    assert!(rt;
+        is_refused(
+            alloc,
+            without_programs,
+            ManifestKind::MissingKey,
+            b"programs"
+        )?
+    );
+    assert!(rt;
+        is_refused(
+            alloc,
+            "seeds = 1\nz = 1\n",
+            ManifestKind::MissingKey,
+            b"version"
+        )?
+    );
     assert!(rt; is_bad(alloc, 1, 100, "[\"A\"]", b"pivot")?);
     assert!(rt; is_bad(alloc, 1, 0, "[]", b"pivot")?);
     assert!(rt; is_bad(alloc, 3, 1, "[\"A\"]", b"version")?);
@@ -195,13 +242,24 @@ fn faults_go_by_their_kinds(rt: HostRuntime) -> Result<(), Fail> {
     let alloc = rt.alloc();
     assert!(rt; has_bad_value(alloc, "copybooks = { a = \"x\" }", b"copybooks")?);
     assert!(rt; has_bad_value(alloc, "copybooks = [\"x\"]", b"copybooks")?);
-    assert!(rt; reads(alloc, "copybooks = { \"A-1\" = \"x\" }\nfiles = { a = \"y\" }")?);
+    assert!(rt;
+        reads(
+            alloc,
+            "copybooks = { \"A-1\" = \"x\" }\nfiles = { a = \"y\" }"
+        )?
+    );
     assert!(rt; has_bad_value(alloc, "seeds = [\"x\"]", b"seeds")?);
     assert!(rt; has_bad_value(alloc, "files = { A = 1 }", b"files")?);
     assert!(rt; has_bad_value(alloc, "jobs = { A = \"A\" }", b"jobs")?);
     assert!(rt; has_bad_value(alloc, "jobs = 1\nfiles = 1\nseeds = \"/\"", b"files")?);
     assert!(rt; has_bad_value(alloc, "seeds = \"/\"\njobs = 1", b"jobs")?);
-    assert!(rt; has_bad_name(alloc, "files = { A = \"..\" }\nseeds = \"/\"\nB = 1", b"seeds")?);
+    assert!(rt;
+        has_bad_name(
+            alloc,
+            "files = { A = \"..\" }\nseeds = \"/\"\nB = 1",
+            b"seeds"
+        )?
+    );
     assert!(rt; has_bad_name(alloc, "files = { A = \"..\" }\nB = 1", b"files")?);
     assert!(rt; has_bad_name(alloc, "copybooks = { A = \"\" }", b"copybooks")?);
     assert!(rt; has_unknown_key(alloc, "a = 1\nZ = 1\nseeds = \"A.cbl\"", b"Z")?);

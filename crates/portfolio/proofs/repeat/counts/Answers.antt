@@ -1,4 +1,4 @@
-use Rattle.std.proofs.Common.{◌≡◌, ◌+◌, ◌<◌, ℕ, cond, length, get_or, bytes_eq, rules, ap, sym, ◌∙◌}
+use Rattle.std.proofs.Common.{◌+◌, ◌<◌, ℕ, cond, length, get_or, bytes_eq, rules, ap, sym, ◌∙◌}
 use Rattle.portfolio.specs.Counts.{count_in}
 use Rattle.portfolio.proofs.Counts.{next_count}
 use Rattle.portfolio.proofs.repeat.counts.Goals as goal

@@ -1,5 +1,5 @@
 use Rattle.std.proofs.Common.{ℕ, List, MatchOption, subst, ◌∙◌}
-use Rattle.portfolio.specs.Faults.{all_files, is_twice_in, IsLeast, NonePasses}
+use Rattle.portfolio.specs.Faults.{is_twice_in, IsLeast, NonePasses}
 use Rattle.portfolio.proofs.repeat.repeated_file.Goals as goal
 
 pub returns : goal.returns
