@@ -274,7 +274,7 @@ fn entries_have_each_clause_once_in_any_order(rt: HostRuntime) -> Result<(), Fai
         (b"50 A .", b"UnitShape 7:13"),
         (b"78 A .", b"UnitShape 7:13"),
         (b"1.0 A .", b"UnitShape 7:13"),
-        (b"01 A . 05 B PIC ~9Q .", b"PictureShape 7:20"),
+        (b"01 A . 05 B PIC ~9Q .", b"PictureShape 7:19"),
         (b"01 A PIC ~9(19) .", b"TooManyDigits 7:16"),
         (b"01 A PIC ~XXXXXXXXXXXXXXXXXXXXXXXXXXXXXXX .", b"PictureFull 7:16"),
         (b"01 A PIC ~9Q", b"UnitShape 7:13"),
@@ -435,7 +435,7 @@ fn divisions_stand_in_their_order(rt: HostRuntime) -> Result<(), Fail> {
         assert_eq!(rt; got.items(), want);
     }
     let empty = read(rt.alloc(), List::new(rt.alloc()))?;
-    assert_eq!(rt; empty.items(), b"UnitShape 1:1");
+    assert_eq!(rt; empty.items(), b"UnitShape 1:1".as_slice());
     Ok(())
 }
 
@@ -475,7 +475,7 @@ fn a_program_cut_after_each_word_is_read_or_refused_at_its_last_word(rt: HostRun
         if !whole.is_empty() {
             assert_eq!(rt; got.items(), whole);
         } else if count == 0 {
-            assert_eq!(rt; got.items(), b"UnitShape 1:1");
+            assert_eq!(rt; got.items(), b"UnitShape 1:1".as_slice());
         } else {
             let last = count - 1;
             let want = format!(in rt.alloc(); "UnitShape 7:{last}")?;
