@@ -1,24 +1,22 @@
 -- Conditions are read as the grammar says.
-use Rattle.std.proofs.Common.{◌≡◌, ℕ, zero, suc, ◌+◌, Bool, true, false, ◌<◌, ◌≤◌, ◌⊎◌, inl, inr, Option, Some, None, length, refl, ap, sym, subst, ◌∙◌, arith, if◌then◌else◌}
+use Rattle.std.proofs.Common.{◌≡◌, ℕ, ◌+◌, Bool, true, false, ◌<◌, ◌≤◌, ◌⊎◌, inl, inr, Option, Some, None, length, refl, ap, sym, subst, ◌∙◌, arith, if◌then◌else◌}
 use Rattle.cobol_syntax.specs.declared.expr.Operand.TheVariants as o
 use Rattle.cobol_syntax.specs.declared.expr.Expr.{Expr}
 use Rattle.cobol_syntax.specs.declared.expr.Expr.TheVariants as e
-use Rattle.cobol_syntax.specs.declared.place.Place.{Place}
-use Rattle.cond_reader.specs.declared.symbol.Symbol.{Symbol}
 use Rattle.cond_reader.specs.declared.symbol.Symbol.TheVariants as s
 use Rattle.cond_reader.specs.declared.relation.Comparison.{Comparison}
 use Rattle.cond_reader.specs.declared.relation.Last.{Last}
 use Rattle.cond_reader.specs.declared.relation.Piece.{Piece}
 use Rattle.cond_reader.specs.declared.relation.Predicate.{Predicate}
-use Rattle.cond_reader.specs.Text.{Text, symbol, sees, is_named}
+use Rattle.cond_reader.specs.Text.{Text, symbol, sees}
 use Rattle.cond_reader.specs.Reads.{Reader, and_then}
 use Rattle.cond_reader.specs.Places.{place, opens, closed}
 use Rattle.cond_reader.specs.Exprs.{expr}
-use Rattle.cond_reader.specs.Relations.{class, related, said, or_else, longer, both, either, enclosed, denied}
+use Rattle.cond_reader.specs.Relations.{class, related, said, or_else, both, either, enclosed, denied}
 use Rattle.cond_reader.specs.Conds.{phrase, class_test, predicate_at, test, named, is_name_alone, unless_name_alone, given, comparison, comparison_or, shortened_by, shortened, plain, enclosed_at, parenthesized, simple, negation, part, next_and, more_ands, conjunction, next_or, more_ors, disjunction}
-use Rattle.cond_reader.specs.Grammar.{Is, IsPlace, Between}
-use Rattle.cond_reader.specs.ExprGrammar.{IsOperand, Inside as ExprInside, Parenthesized}
-use Rattle.cond_reader.specs.CondGrammar.{Then, Phrase, in_class, IsPredicate, IsNamed, Plain, Rel, MaybeRel, ShortenedBy, Shortened, Enclosed, Simple, Negation, Part, NextAnd, Conjunction, NextOr, Disjunction, Series, Run}
+use Rattle.cond_reader.specs.Grammar.{IsPlace, Between}
+use Rattle.cond_reader.specs.ExprGrammar.{IsOperand, Inside as ExprInside}
+use Rattle.cond_reader.specs.CondGrammar.{Then, Phrase, in_class, IsPredicate, IsNamed, Plain, MaybeRel, ShortenedBy, Shortened, Enclosed, Simple, Negation, Part, NextAnd, Conjunction, NextOr, Disjunction, Run}
 use Rattle.cond_reader.specs.CondGrammar.IsPredicate.{relation, sign_of}
 use Rattle.cond_reader.specs.CondGrammar.Plain.{class_test as by_class, test as by_test, named as by_name}
 use Rattle.cond_reader.specs.CondGrammar.MaybeRel.{left_out, written}
@@ -30,8 +28,8 @@ use Rattle.cond_reader.proofs.Best.{Agrees, Longer}
 use Rattle.cond_reader.proofs.Seen.{if_some, found, then_some}
 use Rattle.cond_reader.proofs.Words.{same-true, sees-is, sees-not, within}
 use Rattle.cond_reader.proofs.Ways.{widened, regrouped, reread, sequence-agrees, made-agrees, first-agrees, longest-agrees, series-agrees}
-use Rattle.cond_reader.proofs.PlaceLaws.{Never, between, between-agrees}
-use Rattle.cond_reader.proofs.CondWords.{extends, says, ends, begins, compares, extends-says, extends-ends, says-ends, runs_on-begins, compares-begins, class-says, other, Extends, Says, Begins, Expression, expr-reads, place-reads, expr-begins, place-expr, paren-expr, Leading, expr-leads, expr-is}
+use Rattle.cond_reader.proofs.PlaceLaws.{between, between-agrees}
+use Rattle.cond_reader.proofs.CondWords.{extends, says, ends, begins, extends-says, extends-ends, says-ends, runs_on-begins, compares-begins, class-says, other, Extends, Says, Begins, Expression, expr-reads, place-reads, expr-begins, place-expr, paren-expr, Leading, expr-leads, expr-is}
 use Rattle.cond_reader.proofs.CondParts.{class-reads, comparison-agrees, rel-compares, rel-after-not, no-rel-and-class, no-sign-and-class, predicate-says, predicate-agrees, phrase-says}
 use Rattle.cond_reader.proofs.NameLaws.{named-place, named-agrees, alone-is, alone-shorter}
 
@@ -307,7 +305,7 @@ module _ (t : Text) where
     module _ (inner : Option Last → Reader Piece) (Inner : Option Last → ℕ → ℕ → Piece → Type 0) (goI : ℕ → Type 0)
         (inners : (last : Option Last) → Agrees size (inner last) (Inner last) goI) (shut : (i : ℕ) → goI i → symbol t i ≡ s.Close → ⊥)
         (alone : (last : Option Last) (i m : ℕ) (p : Piece) → Inner last i m p → symbol t m ≡ s.Close → (f : ℕ) (y : Expr) → ExprInside t (IsOperand t) level i f y → symbol t f ≡ s.Close
-            → (m ≡ f) × (is_name_alone t y ≡ true)) where
+        → (m ≡ f) × (is_name_alone t y ≡ true)) where
       abbrev shut_by : Bool → Piece → ℕ → Option (Piece × ℕ)
       shut_by c p j = if c then Some (p, j + 1) else None
 

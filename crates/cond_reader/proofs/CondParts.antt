@@ -1,6 +1,5 @@
 -- What is said of an expression is read as the grammar says.
 use Rattle.std.proofs.Common.{◌≡◌, ℕ, ◌+◌, Bool, true, false, ◌<◌, ◌≤◌, ◌⊎◌, inl, inr, Option, Some, None, length, refl, ap, sym, subst, ◌∙◌, arith, ℤ, if◌then◌else◌}
-use Rattle.cobol_syntax.specs.declared.expr.Expr.{Expr}
 use Rattle.cobol_syntax.specs.declared.cond.Rel.{Rel as Order}
 use Rattle.cobol_syntax.specs.declared.cond.Rel.TheVariants as rel
 use Rattle.cond_reader.specs.declared.symbol.Symbol.{Symbol}
@@ -13,18 +12,17 @@ use Rattle.cond_reader.specs.Reads.{Reader, and_then}
 use Rattle.cond_reader.specs.Exprs.{expr}
 use Rattle.cond_reader.specs.Relations.{sign, class, mark_operator, comparison_of, ordered, negated}
 use Rattle.cond_reader.specs.Conds.{after, not_at, or_equal, word_operator, mark_or_word, operator, comparison, word_after, phrase, related_or_signed, predicate_at}
-use Rattle.cond_reader.specs.Grammar.{Is}
-use Rattle.cond_reader.specs.CondGrammar.{Maybe, MaybeNot, Lead, MaybeOrEqual, Operator, Rel, OneOf, Phrase, Then, IsPredicate, with_not, with_meaning, with_right}
+use Rattle.cond_reader.specs.CondGrammar.{Maybe, MaybeNot, Lead, MaybeOrEqual, Operator, Rel, Phrase, Then, IsPredicate, with_right}
 use Rattle.cond_reader.specs.CondGrammar.Maybe.{absent, given}
 use Rattle.cond_reader.specs.CondGrammar.MaybeNot.{without, marked}
 use Rattle.cond_reader.specs.CondGrammar.MaybeOrEqual.{strict, or_equal as with_equal}
 use Rattle.cond_reader.specs.CondGrammar.Operator.{mark as by_mark, equal as by_equal, greater as by_greater, less as by_less}
 use Rattle.cond_reader.specs.CondGrammar.IsPredicate.{relation, sign_of}
 use Rattle.cond_reader.proofs.Best.{Agrees, Longer}
-use Rattle.cond_reader.proofs.Ways.{sequence, sequence-agrees}
+use Rattle.cond_reader.proofs.Ways.{sequence-agrees}
 use Rattle.cond_reader.proofs.Seen.{found, then_some}
 use Rattle.cond_reader.proofs.Words.{same-true, sees-is, sees-not, within}
-use Rattle.cond_reader.proofs.CondWords.{extends, compares, says, runs_on, begins, runs_on-begins, compares-says, class-says, sign-says, other, Extends, Says, Begins, Expression, expr-reads, expr-begins}
+use Rattle.cond_reader.proofs.CondWords.{compares, says, runs_on, begins, runs_on-begins, compares-says, class-says, sign-says, other, Extends, Says, Expression, expr-reads, expr-begins}
 
 -- a word that is an operator, or begins one
 abbrev operates : Symbol → Bool

@@ -1,5 +1,5 @@
 -- Which words go on with an expression, and which say something of it.
-use Rattle.std.proofs.Common.{◌≡◌, ℕ, ◌+◌, Bool, true, false, ◌<◌, ◌≤◌, ◌⊎◌, inl, inr, Option, Some, None, length, refl, ap, sym, subst, ◌∙◌, arith, ℤ}
+use Rattle.std.proofs.Common.{◌≡◌, ℕ, Bool, true, false, inl, inr, Some, None, length, refl, ap, sym, ◌∙◌, ℤ}
 use Rattle.cobol_syntax.specs.declared.place.Place.{Place}
 use Rattle.cobol_syntax.specs.declared.expr.Operand.{Operand}
 use Rattle.cobol_syntax.specs.declared.expr.Operand.TheVariants as o
@@ -24,7 +24,6 @@ use Rattle.cond_reader.proofs.Ways.{widened}
 use Rattle.cond_reader.proofs.PlaceLaws.{PlaceGoes, place-agrees}
 use Rattle.cond_reader.proofs.ExprLaws.{GoesOn}
 use Rattle.cond_reader.proofs.OperandLaws.{exprs-agree}
-use Rattle.cond_reader.proofs.Words.{within}
 
 -- a word with which an expression goes on
 abbrev pub extends : Symbol → Bool

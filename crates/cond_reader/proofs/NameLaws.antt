@@ -15,24 +15,24 @@ use Rattle.cond_reader.specs.declared.expr.Operator.{Operator}
 use Rattle.cond_reader.specs.declared.expr.Operator.TheVariants as op
 use Rattle.cond_reader.specs.declared.relation.Piece.{Piece}
 use Rattle.cond_reader.specs.Text.{Text, symbol, spelling, is_named}
-use Rattle.cond_reader.specs.Reads.{Reader, and_then}
-use Rattle.cond_reader.specs.Places.{place, names, subscripts, subscripted, plain_place}
-use Rattle.cond_reader.specs.Exprs.{expr, figure, joined, operation, sum_operator, product_operator}
+use Rattle.cond_reader.specs.Reads.{and_then}
+use Rattle.cond_reader.specs.Places.{names, subscripts, subscripted, plain_place}
+use Rattle.cond_reader.specs.Exprs.{figure, joined, operation, sum_operator, product_operator}
 use Rattle.cond_reader.specs.Relations.{asked}
 use Rattle.cond_reader.specs.Conds.{named, place_of, place_of_operand, place_of_layer, is_named_place, is_name_alone}
-use Rattle.cond_reader.specs.Grammar.{Names, MaybeSubscripts, IsPlace, Many}
+use Rattle.cond_reader.specs.Grammar.{MaybeSubscripts, IsPlace, Many}
 use Rattle.cond_reader.specs.Grammar.Many.{stop, more}
 use Rattle.cond_reader.specs.Grammar.MaybeSubscripts.{plain as without_subs, subscripts as with_subs}
 use Rattle.cond_reader.specs.Grammar.MaybeReference.{uncut}
-use Rattle.cond_reader.specs.ExprGrammar.{IsOperand, IsExpr, Inside, Parenthesized, Atom, Factor, Term, After}
+use Rattle.cond_reader.specs.ExprGrammar.{IsOperand, Inside, Atom, Factor, Term, After}
 use Rattle.cond_reader.specs.ExprGrammar.IsOperand.{place as of_place, number as of_number, literal as of_literal, figurative as of_figure}
 use Rattle.cond_reader.specs.ExprGrammar.Atom.{operand, parenthesized}
 use Rattle.cond_reader.specs.ExprGrammar.Factor.{plus, minus, plain}
 use Rattle.cond_reader.specs.CondGrammar.{IsNamed}
 use Rattle.cond_reader.proofs.Best.{Agrees, Longer}
-use Rattle.cond_reader.proofs.Seen.{if_some, found, then_some}
+use Rattle.cond_reader.proofs.Seen.{found}
 use Rattle.cond_reader.proofs.PlaceLaws.{names-agrees, subs_or, subs-or-by, subs-made, subs-grow, subscripts-read, subscripts-agree, place-agrees, PlaceGoes}
-use Rattle.cond_reader.proofs.CondWords.{extends, begins, other, Extends, Begins, Expression, expr-reads, place-reads, expr-is, place-expr, operand-not-open}
+use Rattle.cond_reader.proofs.CondWords.{extends, other, Extends, Expression, expr-reads, place-reads, expr-is, operand-not-open}
 
 -- what stands before a closing parenthesis ends in one place alone
 inside-same : (t : Text) (level i j k : ℕ) (x y : Expr) → Inside t (IsOperand t) level i j x → Inside t (IsOperand t) level i k y → symbol t j ≡ s.Close → symbol t k ≡ s.Close → j ≡ k

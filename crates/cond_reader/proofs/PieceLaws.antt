@@ -1,5 +1,5 @@
 -- Conditions of each level are read as the grammar says, and the longest is read.
-use Rattle.std.proofs.Common.{◌≡◌, ℕ, zero, suc, ◌<◌, ◌⊎◌, inl, inr, Option, Some, None, length, true, refl, ap, sym, subst, ◌∙◌}
+use Rattle.std.proofs.Common.{◌≡◌, ℕ, zero, suc, ◌⊎◌, inl, inr, Option, Some, None, length, true, refl, ap, sym, subst}
 use Rattle.cobol_syntax.specs.declared.expr.Expr.{Expr}
 use Rattle.cobol_syntax.specs.declared.cond.Condition.{Condition}
 use Rattle.cond_reader.specs.declared.symbol.Symbol.TheVariants as s

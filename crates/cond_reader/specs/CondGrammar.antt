@@ -1,6 +1,6 @@
 -- The grammar of conditions, one case for each production.
 -- A condition is read where a relation may be in force, whose subject and operator later relations may leave out.
-use Rattle.std.specs.Prelude.{◌≡◌, ℕ, zero, suc, ◌+◌, ◌<◌, Bool, true, false, ℤ, List, Option, Some, None}
+use Rattle.std.specs.Prelude.{◌≡◌, ℕ, zero, suc, ◌+◌, Bool, true, false, ℤ, List, Option, Some, None}
 use Rattle.cobol_syntax.specs.declared.place.Place.{Place}
 use Rattle.cobol_syntax.specs.declared.place.Sub.{Sub}
 use Rattle.cobol_syntax.specs.declared.expr.Expr.{Expr}

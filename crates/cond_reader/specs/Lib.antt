@@ -9,6 +9,7 @@ pub mod Longest
 pub mod Places
 pub mod Reads
 pub mod Relations
+pub mod Scans
 pub mod Symbols
 pub mod Table
 pub mod Text

@@ -1,5 +1,5 @@
 -- What conditions are built of.
-use Rattle.std.specs.Prelude.{ℕ, ◌+◌, Bool, true, false, nat_lt, if◌then◌else◌, ℤ, pos, negsuc, Option, Some, None}
+use Rattle.std.specs.Prelude.{ℕ, Bool, true, false, nat_lt, if◌then◌else◌, ℤ, pos, negsuc, Option, Some, None}
 use Rattle.cobol_syntax.specs.declared.expr.Expr.{Expr}
 use Rattle.cobol_syntax.specs.declared.cond.Rel.{Rel}
 use Rattle.cobol_syntax.specs.declared.cond.Rel.TheVariants as rel
@@ -9,7 +9,6 @@ use Rattle.cobol_syntax.specs.declared.cond.CondForm.TheVariants as form
 use Rattle.cond_reader.specs.declared.symbol.Symbol.{Symbol}
 use Rattle.cond_reader.specs.declared.symbol.Symbol.TheVariants as s
 use Rattle.cond_reader.specs.declared.relation.Comparison.{Comparison}
-use Rattle.cond_reader.specs.declared.relation.Last.{Last}
 use Rattle.cond_reader.specs.declared.relation.Piece.{Piece}
 use Rattle.cond_reader.specs.declared.relation.Predicate.{Predicate}
 use Rattle.cond_reader.specs.declared.relation.Predicate.TheVariants as predicate

@@ -1,5 +1,6 @@
 ghost use Rattle.std.specs.Prelude.{◌≡◌, true, false};
 ghost use Rattle.cond_reader.specs.Chars as spec;
+ghost use Rattle.cond_reader.specs.Scans as scan;
 
 use decimal_bytes::Scaled;
 
@@ -12,12 +13,15 @@ const LARGE: u64 = 100_000_000_000_000_000;
 pub fn whole(text: &[u8]) -> Option<u32>
     ensures { result ≡ spec.whole text.now }
 {
-    if text.is_empty() { None } else { digits(text) }
+    match text {
+        [] => None,
+        _ => digits(text),
+    }
 }
 
 /// The value of digits; none where another byte stands among them, or where it is too large.
 fn digits(mut text: &[u8]) -> Option<u32>
-    ensures { result ≡ spec.digits 0 text.entry.now }
+    ensures { result ≡ scan.digits 0 text.entry.now }
 {
     let mut value = 0u64;
     while let [digit, rest @ ..] = text {
@@ -33,9 +37,9 @@ fn digits(mut text: &[u8]) -> Option<u32>
     Some(value as u32)
 }
 
-/// The number, its digits and its digits after the point, without a sign.
+/// The same, by going over the characters once.
 fn unsigned(mut text: &[u8]) -> Option<(u64, u8, u8)>
-    ensures { result ≡ spec.unsigned false 0 0 0 text.entry.now }
+    ensures { result ≡ scan.unsigned false 0 0 0 text.entry.now }
 {
     let mut number = 0u64;
     let mut digits = 0u8;
@@ -59,11 +63,18 @@ fn unsigned(mut text: &[u8]) -> Option<(u64, u8, u8)>
         }
         text = rest;
     }
-    if digits == 0 {
+    if digits == 0 || is_fraction && scale == 0 {
         None
     } else {
         Some((number, digits, scale))
     }
+}
+
+/// The number without its point, its digits and its digits after the point. A point has digits after it.
+fn decimal(text: &[u8]) -> Option<(u64, u8, u8)>
+    ensures { result ≡ spec.decimal text.now }
+{
+    unsigned(text)
 }
 
 /// The value of a number without its sign, with the sign that was read.
@@ -71,7 +82,7 @@ fn unsigned(mut text: &[u8]) -> Option<(u64, u8, u8)>
 fn signed(is_negative: bool, text: &[u8]) -> Option<(Scaled, u8)>
     ensures { result ≡ spec.signed is_negative text.now }
 {
-    let (number, digits, scale) = unsigned(text)?;
+    let (number, digits, scale) = decimal(text)?;
     let number = i128::from(number);
     let number = if is_negative { 0 - number } else { number };
     Some((Scaled { number, scale }, digits))

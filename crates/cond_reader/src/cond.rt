@@ -56,7 +56,10 @@ impl<'a> Reader<'a> {
         ensures { result ≡ spec.word_operator (text_of self.now) at }
     {
         if self.sees(Symbol::Equal, at) {
-            Some((comparison_of(Rel::Equal, false), self.after(Symbol::To, at + 1)))
+            Some((
+                comparison_of(Rel::Equal, false),
+                self.after(Symbol::To, at + 1),
+            ))
         } else if self.sees(Symbol::Greater, at) {
             let (or_equal, next) = self.or_equal(at + 1);
             Some((ordered(Rel::Greater, Rel::Less, or_equal), next))
@@ -316,7 +319,13 @@ impl<'a> Reader<'a> {
     /// A part of a conjunction. Where it follows AND or OR it may be a relation that leaves something out.
     #[cycle(cond)]
     #[tactic(auto, unfolding(crate::specs::Conds::part))]
-    fn part_of_condition(&self, level: u32, follows: bool, last: &Option<Last>, at: u32) -> Found<Piece>
+    fn part_of_condition(
+        &self,
+        level: u32,
+        follows: bool,
+        last: &Option<Last>,
+        at: u32,
+    ) -> Found<Piece>
         ensures { IfOk result (λ r. r ≡ spec.part (text_of self.now) level (spec.inside (text_of self.now) level) follows last.now at) }
     {
         if follows {

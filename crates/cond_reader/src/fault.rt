@@ -55,9 +55,7 @@ impl<T: Drop> From<AllocFailed<T>> for UnitFault {
 fn has_period(kinds: &[Kind]) -> bool
     ensures { result ≡ spec.has_period kinds.now }
 {
-    kinds
-        .iter()
-        .any(|kind| is_period(*kind))
+    kinds.iter().any(|kind| is_period(*kind))
 }
 
 fn is_period(kind: Kind) -> bool

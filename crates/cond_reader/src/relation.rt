@@ -271,11 +271,7 @@ pub fn enclosed(at: u32, end: u32, inner: Piece) -> Piece
 pub fn denied(alloc: Global, at: u32, end: u32, inner: Piece) -> Result<Piece, Memory>
     ensures { IfOk result (λ p. p ≡ spec.denied at end inner) }
 {
-    let condition = built(
-        at,
-        end,
-        CondForm::Not(Boxed::new(alloc, inner.condition)?),
-    );
+    let condition = built(at, end, CondForm::Not(Boxed::new(alloc, inner.condition)?));
     Ok(Piece {
         condition,
         last: inner.last,

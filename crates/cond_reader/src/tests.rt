@@ -349,6 +349,8 @@ fn the_longest_operand_is_read(rt: HostRuntime) -> Result<(), Fail> {
         (b"+7 ( 1 )", b"7e-0 of 1@0 1"),
         (b"123456789012345678", b"123456789012345678e-0 of 18@0 1"),
         (b"1234567890123456789", b""),
+        (b"5.", b""),
+        (b"-.5", b"-5e-1 of 1@0 1"),
         (b"\"AND", b"AND\"@0 1"),
         (b"ZEROES ( 1 )", b"all 48@0 1"),
         (b"SPACES", b"all 32@0 1"),
@@ -400,11 +402,7 @@ fn the_longest_expression_is_read(rt: HostRuntime) -> Result<(), Fail> {
 #[test]
 fn the_longest_condition_has_at_most_64_levels(rt: HostRuntime) -> Result<(), Fail> {
     for (depth, comes_second, want) in [
-        (
-            64,
-            false,
-            b"[A@64-65=1e-0 of 1@66]@0-131 131".as_slice(),
-        ),
+        (64, false, b"[A@64-65=1e-0 of 1@66]@0-131 131".as_slice()),
         (65, false, b"deep 8"),
         (65, true, b"[B@0-1=2e-0 of 1@2]@0-3 3"),
     ] {
