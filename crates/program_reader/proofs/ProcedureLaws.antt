@@ -46,7 +46,7 @@ module _ (v : View) where
       let unit : NameUnit v i j n = record { middle = m; name = name-sound v i m n read; period = ended-sound v m j end.1 } in
       subst (λ (x : Heading). IsHeading v i j x) end.0 (is_paragraph unit)
 
-  heading-sound : (i j : ℕ) (h : Heading) → heading v i ≡ Some (h, j) → IsHeading v i j h
+  pub heading-sound : (i j : ℕ) (h : Heading) → heading v i ≡ Some (h, j) → IsHeading v i j h
   unfolding heading
   heading-sound i j h q =
       let step = then_some (name v.text i) (λ n m. heading_end v n m (header v k.Section m)) (h, j) q in
@@ -76,7 +76,7 @@ module _ (v : View) where
           at = sym same.1;
         }
 
-    next-sound : (b c : Body) (i j : ℕ) → next_sentence v t b i ≡ Ok (c, j) → Next b i c j
+    pub next-sound : (b c : Body) (i j : ℕ) → next_sentence v t b i ≡ Ok (c, j) → Next b i c j
     unfolding next_sentence
     next-sound b c i j h = next-by b c i j (sentence t 64 (spot i b.number)) refl h
 
@@ -146,7 +146,7 @@ module _ (v : View) where
         } in
         subst (λ (m : ℕ). Chapter cs h begin i ds m) same.1 (subst (λ (y : Chapters). Chapter cs h begin i y end) same.0 whole)
 
-    body-sound : (cs ds : Chapters) (h : Heading) (begin i j : ℕ) → with_body v t cs h begin i ≡ Ok (ds, j) → Chapter cs h begin i ds j
+    pub body-sound : (cs ds : Chapters) (h : Heading) (begin i j : ℕ) → with_body v t cs h begin i ≡ Ok (ds, j) → Chapter cs h begin i ds j
     unfolding with_body more_sentences
     body-sound cs ds h begin i j q =
         let step = so-ok (more_sentences v t (empty cs.number) i) (λ b m. Ok (with_paragraph cs h begin b, m)) (ds, j) q in
@@ -169,7 +169,7 @@ module _ (v : View) where
       pub read : IsParagraph v IsSentence i cs.number p (spot j ds.number)
       pub is : ds.paragraphs ≡ cs.paragraphs ++ (p ∷ [])
 
-    next-paragraph-sound : (cs ds : Chapters) (i j : ℕ) → next_paragraph v t cs i ≡ Ok (ds, j) → NextParagraph cs i ds j
+    pub next-paragraph-sound : (cs ds : Chapters) (i j : ℕ) → next_paragraph v t cs i ≡ Ok (ds, j) → NextParagraph cs i ds j
     unfolding next_paragraph heading_unit
     next-paragraph-sound cs ds i j q =
         let step = so-ok (heading_unit v i) (λ h m. with_body v t cs h i m) (ds, j) q in
@@ -223,7 +223,7 @@ module _ (v : View) where
             begun.is ∙ ap (λ (ys : List Sentence). record { name = []; section = false; sentences = ys; at = i } ∷ begun.ps) some.grown.is in
         subst (λ (ps : List Paragraph). IsChapters v IsSentence i ps j) (sym list) (without_name some.grown.read some.some begun.read)
 
-    chapters-sound : (n : ℕ) → length v.terms ≡ suc n → (ds : Chapters) (i j : ℕ) → chapters v t i ≡ Ok (ds, j)
+    pub chapters-sound : (n : ℕ) → length v.terms ≡ suc n → (ds : Chapters) (i j : ℕ) → chapters v t i ≡ Ok (ds, j)
         → (symbol v.text i ≢ s.End) × IsChapters v IsSentence i ds.paragraphs j
     unfolding chapters unnamed
     chapters-sound n long ds i j q =

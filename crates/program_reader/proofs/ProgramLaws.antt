@@ -40,7 +40,7 @@ module _ (v : View) where
   required-ok None i x h = absurd (cc)
   required-ok (Some y) i x h = ap (λ z. Some z) (ok_same y x h)
 
-  header-read : (term : Term) (i j : ℕ) → required v (header v term i) i ≡ Ok j → Header v term i j
+  pub header-read : (term : Term) (i j : ℕ) → required v (header v term i) i ≡ Ok j → Header v term i j
   unfolding required
   header-read term i j h = header-sound v term i j (required-ok (header v term i) i j h)
 
@@ -63,7 +63,7 @@ module _ (v : View) where
         name = name-read second.end j id second.rest;
       }
 
-  computer-sound : (term : Term) (i j : ℕ) → computer v term i ≡ Ok j → Computer v term i j
+  pub computer-sound : (term : Term) (i j : ℕ) → computer v term i ≡ Ok j → Computer v term i j
   unfolding computer
   computer-sound term i j h =
       elim (header v term i) as (λ (r : Option ℕ). header v term i ≡ r → if_there r (Ok i) (λ m. so (name_unit v m) (λ n l. Ok l)) ≡ Ok j → Computer v term i j) [
@@ -79,7 +79,7 @@ module _ (v : View) where
             subst (λ (l : ℕ). Computer v term i l) (ok_same step.end j step.rest) whole
       ] refl h
 
-  configuration-sound : (i j : ℕ) → configuration v i ≡ Ok j → Configuration v i j
+  pub configuration-sound : (i j : ℕ) → configuration v i ≡ Ok j → Configuration v i j
   unfolding configuration
   configuration-sound i j h =
       elim (headers v k.Configuration k.Section i) as (λ (r : Option ℕ). headers v k.Configuration k.Section i ≡ r
@@ -94,7 +94,7 @@ module _ (v : View) where
             })
       ] refl h
 
-  next-select-sound : (ss : List Select) (i j : ℕ) (b : List Select) → next_select v ss i ≡ Ok (b, j) → Added (IsSelect v) with_last ss i j b
+  pub next-select-sound : (ss : List Select) (i j : ℕ) (b : List Select) → next_select v ss i ≡ Ok (b, j) → Added (IsSelect v) with_last ss i j b
   unfolding next_select select_unit
   next-select-sound ss i j b h =
       let step = so-ok (select_unit v i) (λ x m. Ok (with_last ss x, m)) (b, j) h in
@@ -154,7 +154,7 @@ module _ (v : View) (picture-sound : (i j : ℕ) (d : Draft) (e : Entry) → IsD
             subst (λ (l : ℕ). IsEntry v i l e) same.1 (subst (λ (y : Entry). IsEntry v i step.end y) same.0 whole)
       ] refl step.rest
 
-  next-entry-sound : (es : List Entry) (i j : ℕ) (b : List Entry) → next_entry v es i ≡ Ok (b, j) → Added (IsEntry v) with_last es i j b
+  pub next-entry-sound : (es : List Entry) (i j : ℕ) (b : List Entry) → next_entry v es i ≡ Ok (b, j) → Added (IsEntry v) with_last es i j b
   unfolding next_entry
   next-entry-sound es i j b h =
       let step = so-ok (entry_unit v i) (λ x m. Ok (with_last es x, m)) (b, j) h in
@@ -192,7 +192,7 @@ module _ (v : View) (picture-sound : (i j : ℕ) (d : Draft) (e : Entry) → IsD
         is = sym same.0;
       }
 
-  next-file-sound : (fs : List FileEntry) (i j : ℕ) (b : List FileEntry) → next_file v fs i ≡ Ok (b, j) → Added (FileWithRecords v) with_last fs i j b
+  pub next-file-sound : (fs : List FileEntry) (i j : ℕ) (b : List FileEntry) → next_file v fs i ≡ Ok (b, j) → Added (FileWithRecords v) with_last fs i j b
   unfolding next_file
   next-file-sound fs i j b h =
       let step = so-ok (file_with_records v i) (λ x m. Ok (with_last fs x, m)) (b, j) h in
@@ -207,7 +207,7 @@ module _ (v : View) (picture-sound : (i j : ℕ) (d : Draft) (e : Entry) → IsD
   unfolding more_files
   files-sound fs i j b h = each-sound (has v k.Fd) (next_file v) (FileWithRecords v) with_last next-file-sound (length v.terms) fs i j b h
 
-  file-section-sound : (i j : ℕ) (fs : List FileEntry) → file_section v i ≡ Ok (fs, j) → FileSection v i j fs
+  pub file-section-sound : (i j : ℕ) (fs : List FileEntry) → file_section v i ≡ Ok (fs, j) → FileSection v i j fs
   unfolding file_section
   file-section-sound i j fs h =
       elim (headers v k.File k.Section i) as (λ (r : Option ℕ). headers v k.File k.Section i ≡ r

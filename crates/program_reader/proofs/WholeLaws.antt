@@ -90,14 +90,14 @@ module _ (v : View) where
       let read : IsReading (text_at (slice_get v.text.words d.entry.picture_at)) p = reading-at v.text.words v.readings a d.entry.picture_at p at in
       subst (λ (x : Entry). IsPictured v d x) (ok_same (record (d.entry) { picture = Some p }) e h) (with_a_picture is read)
 
-  picture-sound : AreReadings v.text.words v.readings → (i j : ℕ) (d : Draft) (e : Entry) → IsDraft v i j d → pictured v d ≡ Ok e → IsPictured v d e
+  pub picture-sound : AreReadings v.text.words v.readings → (i j : ℕ) (d : Draft) (e : Entry) → IsDraft v i j d → pictured v d ≡ Ok e → IsPictured v d e
   unfolding pictured with_picture is_picture
   picture-sound a i j d e w h =
       if_either d.has_picture _ _ (Ok e) (IsPictured v d e) h
       (λ is read. picture-by d e (slice_get v.readings d.entry.picture_at) a refl is (good-draft i j d w is) read)
       (λ is same. subst (λ (x : Entry). IsPictured v d x) (ok_same d.entry e same) (without_picture is))
 
-  nonempty : {X : Type 0} (xs : List X) (x : X) → slice_get xs 0 ≡ Some x → (n : ℕ) × (length xs ≡ suc n)
+  pub nonempty : {X : Type 0} (xs : List X) (x : X) → slice_get xs 0 ≡ Some x → (n : ℕ) × (length xs ≡ suc n)
   nonempty [] x h = absurd (cc)
   nonempty (y ∷ ys) x h = (length ys, refl)
 

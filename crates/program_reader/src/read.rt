@@ -1,5 +1,5 @@
 ghost use Rattle.std.specs.Prelude.{◌≡◌, ◌<◌, ◌^◌, ◌++◌, length, IfOk, IfErr};
-ghost use Rattle.program_reader.specs.IsReads.{IsRead};
+ghost use Rattle.program_reader.specs.IsReads.{IsRead, HasReadFault};
 ghost use Rattle.program_reader.specs.Whole as spec;
 ghost use Rattle.program_reader.specs.View.{view_of};
 
@@ -204,7 +204,8 @@ fn read_words(alloc: Global, words: &[Word], program: u32, file: FileId) -> Resu
 pub fn read_program(alloc: Global, expanded: &Expanded, program: u32, file: FileId) -> Result<Program, ReadFault>
     ensures read { IfOk result (IsRead expanded.now.words program file) }
     ensures exact { IfOk result (λ p. spec.IsAnswer expanded.now.words program file (Ok p)) }
-    ensures refused { IfErr result (spec.IsRefusal expanded.now.words program file) }
+    ensures refused { IfErr result (HasReadFault expanded.now.words program file) }
+    ensures first { IfErr result (spec.IsRefusal expanded.now.words program file) }
 {
     let words = expanded.words.items();
     if words.len() >= 4_294_967_296 {

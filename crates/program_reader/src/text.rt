@@ -40,17 +40,6 @@ impl<'a> Units<'a> {
         }
     }
 
-    /// What the word at a position is; `Unlisted` past the last word.
-    #[tactic(auto, unfolding(crate::specs::Views::term))]
-    pub fn term(&self, at: u32) -> Term
-        ensures { result ≡ spec.term (view_of self.now) at }
-    {
-        match self.terms.get(at as usize) {
-            Some(term) => *term,
-            None => Term::Unlisted,
-        }
-    }
-
     /// The position after a word that may be left out.
     #[tactic(auto, unfolding(crate::specs::Views::past))]
     pub fn past(&self, term: Term, at: u32) -> u32
