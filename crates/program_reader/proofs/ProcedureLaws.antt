@@ -94,8 +94,8 @@ module _ (v : View) where
     abbrev joined : (b c d : Body) (i m j : ℕ) (one : Next b i c m) (rest : Grown c m d j) → Grown b i d j
     joined b c d i m j one rest =
         let moved : Sentences IsSentence one.next.at one.next.number rest.xs (spot j d.number) =
-            subst (λ (n : ℕ). Sentences IsSentence one.next.at n rest.xs (spot j d.number)) one.number
-            (subst (λ (n : ℕ). Sentences IsSentence n c.number rest.xs (spot j d.number)) one.at rest.read) in
+        subst (λ (n : ℕ). Sentences IsSentence one.next.at n rest.xs (spot j d.number)) one.number
+        (subst (λ (n : ℕ). Sentences IsSentence n c.number rest.xs (spot j d.number)) one.at rest.read) in
         record {
           xs = one.x ∷ rest.xs;
           read = one_sentence one.read moved;
@@ -108,8 +108,8 @@ module _ (v : View) where
     each-body (suc n) b c i j h =
         if_either (begins_sentence v i) _ _ (Ok (c, j)) (Grown b i c j) h
         (λ is begun.
-          let step = so-ok (next_sentence v t b i) (λ d m. each (begins_sentence v) (next_sentence v t) n d m) (c, j) begun in
-          joined b step.part c i step.end j (next-sound b step.part i step.end step.read) (each-body n step.part c step.end j step.rest))
+        let step = so-ok (next_sentence v t b i) (λ d m. each (begins_sentence v) (next_sentence v t) n d m) (c, j) begun in
+        joined b step.part c i step.end j (next-sound b step.part i step.end step.read) (each-body n step.part c step.end j step.rest))
         (λ is over. same-grown b c i j (ok_found b c i j over))
 
     -- at least one sentence added
@@ -122,8 +122,8 @@ module _ (v : View) where
     some-body n b c i j is h =
         if_either (begins_sentence v i) _ _ (Ok (c, j)) (GrownSome b i c j) h
         (λ _ begun.
-          let step = so-ok (next_sentence v t b i) (λ d m. each (begins_sentence v) (next_sentence v t) n d m) (c, j) begun in
-          record { grown = joined b step.part c i step.end j (next-sound b step.part i step.end step.read) (each-body n step.part c step.end j step.rest); some = λ e. cc })
+        let step = so-ok (next_sentence v t b i) (λ d m. each (begins_sentence v) (next_sentence v t) n d m) (c, j) begun in
+        record { grown = joined b step.part c i step.end j (next-sound b step.part i step.end step.read) (each-body n step.part c step.end j step.rest); some = λ e. cc })
         (λ not_begun over. absurd (cc))
 
     -- a paragraph added to others
@@ -188,14 +188,14 @@ module _ (v : View) where
     each-paragraph (suc n) cs ds i j h =
         if_either (not (sees v.text s.End i)) _ _ (Ok (ds, j)) (Longer cs i ds j) h
         (λ is begun.
-          let step = so-ok (next_paragraph v t cs i) (λ d m. each (λ i. not (sees v.text s.End i)) (next_paragraph v t) n d m) (ds, j) begun in
-          let one = next-paragraph-sound cs step.part i step.end step.read in
-          let rest = each-paragraph n step.part ds step.end j step.rest in
-          record {
-            ps = one.p ∷ rest.ps;
-            read = one_paragraph one.read rest.read;
-            is = rest.is ∙ ap (λ (ys : List Paragraph). ys ++ rest.ps) one.is ∙ append_assoc cs.paragraphs (one.p ∷ []) rest.ps;
-          })
+        let step = so-ok (next_paragraph v t cs i) (λ d m. each (λ i. not (sees v.text s.End i)) (next_paragraph v t) n d m) (ds, j) begun in
+        let one = next-paragraph-sound cs step.part i step.end step.read in
+        let rest = each-paragraph n step.part ds step.end j step.rest in
+        record {
+          ps = one.p ∷ rest.ps;
+          read = one_paragraph one.read rest.read;
+          is = rest.is ∙ ap (λ (ys : List Paragraph). ys ++ rest.ps) one.is ∙ append_assoc cs.paragraphs (one.p ∷ []) rest.ps;
+        })
         (λ is over. same-longer cs ds i j (ok_found cs ds i j over))
 
     paragraphs-sound : (cs ds : Chapters) (i j : ℕ) → more_paragraphs v t cs i ≡ Ok (ds, j) → Longer cs i ds j
@@ -214,13 +214,13 @@ module _ (v : View) where
     unnamed-sound n long cs ds i m j is q rest =
         let step = so-ok (more_sentences v t (empty 0) i) (λ b l. Ok (with_paragraph nothing nameless i b, l)) (cs, m) q in
         let counted : each (begins_sentence v) (next_sentence v t) (suc n) (empty 0) i ≡ Ok (step.part, step.end) =
-            ap (λ l. each (begins_sentence v) (next_sentence v t) l (empty 0) i) (sym long) ∙ step.read in
+        ap (λ l. each (begins_sentence v) (next_sentence v t) l (empty 0) i) (sym long) ∙ step.read in
         let some = some-body n (empty 0) step.part i step.end is counted in
         let same = ok_found (with_paragraph nothing nameless i step.part) cs step.end m step.rest in
         let begun : Longer (with_paragraph nothing nameless i step.part) step.end ds j =
-            subst (λ (l : ℕ). Longer (with_paragraph nothing nameless i step.part) l ds j) (sym same.1) (subst (λ (y : Chapters). Longer y m ds j) (sym same.0) rest) in
+        subst (λ (l : ℕ). Longer (with_paragraph nothing nameless i step.part) l ds j) (sym same.1) (subst (λ (y : Chapters). Longer y m ds j) (sym same.0) rest) in
         let list : ds.paragraphs ≡ (record { name = []; section = false; sentences = some.grown.xs; at = i } ∷ begun.ps) =
-            begun.is ∙ ap (λ (ys : List Sentence). record { name = []; section = false; sentences = ys; at = i } ∷ begun.ps) some.grown.is in
+        begun.is ∙ ap (λ (ys : List Sentence). record { name = []; section = false; sentences = ys; at = i } ∷ begun.ps) some.grown.is in
         subst (λ (ps : List Paragraph). IsChapters v IsSentence i ps j) (sym list) (without_name some.grown.read some.some begun.read)
 
     pub chapters-sound : (n : ℕ) → length v.terms ≡ suc n → (ds : Chapters) (i j : ℕ) → chapters v t i ≡ Ok (ds, j)
@@ -230,16 +230,18 @@ module _ (v : View) where
         if_either (sees v.text s.End i) _ _ (Ok (ds, j)) ((symbol v.text i ≢ s.End) × IsChapters v IsSentence i ds.paragraphs j) q
         (λ _ e. absurd (cc))
         (λ more read.
-          let step = so-ok (unnamed v t nothing i) (more_paragraphs v t) (ds, j) read in
-          let rest = paragraphs-sound step.part ds step.end j step.rest in
-          let some : symbol v.text i ≢ s.End = λ e. (let seen = sees-is v.text s.End i e in absurd (cc)) in
-          (some, if_either (begins_sentence v i) _ _ (Ok (step.part, step.end)) (IsChapters v IsSentence i ds.paragraphs j) step.read
-            (λ is body. unnamed-sound n long step.part ds i step.end j is body rest)
-            (λ _ same.
+        let step = so-ok (unnamed v t nothing i) (more_paragraphs v t) (ds, j) read in
+        let rest = paragraphs-sound step.part ds step.end j step.rest in
+        let some : symbol v.text i ≢ s.End = λ e. (let seen = sees-is v.text s.End i e in absurd (cc)) in (
+          some,
+          if_either (begins_sentence v i) _ _ (Ok (step.part, step.end)) (IsChapters v IsSentence i ds.paragraphs j) step.read
+              (λ is body. unnamed-sound n long step.part ds i step.end j is body rest)
+              (λ _ same.
               let at = ok_found nothing step.part i step.end same in
               let begun : Longer nothing i ds j =
-                  subst (λ (m : ℕ). Longer nothing m ds j) (sym at.1) (subst (λ (y : Chapters). Longer y step.end ds j) (sym at.0) rest) in
-              subst (λ (ps : List Paragraph). IsChapters v IsSentence i ps j) (sym begun.is) (headed begun.read))))
+              subst (λ (m : ℕ). Longer nothing m ds j) (sym at.1) (subst (λ (y : Chapters). Longer y step.end ds j) (sym at.0) rest) in
+              subst (λ (ps : List Paragraph). IsChapters v IsSentence i ps j) (sym begun.is) (headed begun.read)),
+        ))
 
     pub procedure-sound : (n : ℕ) → length v.terms ≡ suc n → (ps : List Paragraph) (i : ℕ) → procedure v t i ≡ Ok ps → Procedure v IsSentence i ps
     unfolding procedure closed

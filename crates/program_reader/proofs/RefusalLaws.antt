@@ -73,16 +73,16 @@ module _ {A B : Type 0} (begins : ℕ → Bool) (next : A → ℕ → Result (A 
   each-err (suc n) a i x h =
       if_either (begins i) _ _ (Err x) (EachErr next Item add a i x) h
       (λ is begun. so-err (next a i) (λ c m. each begins next n c m) x (EachErr next Item add a i x) begun
-        (λ e. record { middle = i; b = a; before = none_left; refused = e })
-        (λ c m read rest.
-          let added = sound a i m c read in
-          let later = each-err n c m x rest in
-          record {
-            middle = later.middle;
-            b = later.b;
-            before = one_more added.item (subst (λ d. Many Item add d m later.middle later.b) added.is later.before);
-            refused = later.refused;
-          }))
+      (λ e. record { middle = i; b = a; before = none_left; refused = e })
+      (λ c m read rest.
+      let added = sound a i m c read in
+      let later = each-err n c m x rest in
+      record {
+        middle = later.middle;
+        b = later.b;
+        before = one_more added.item (subst (λ d. Many Item add d m later.middle later.b) added.is later.before);
+        refused = later.refused;
+      }))
       (λ is over. absurd (cc))
 
 module _ (v : View) where
@@ -100,8 +100,8 @@ module _ (v : View) where
       so_at-err (required v (headers v k.Identification k.Division 0) 0) (program_id v) x G h
       (λ e. no_division (required-err _ 0 x e))
       (λ i one rest. so_at-err (required v (header v k.ProgramId i) i) (name_unit v) x G rest
-        (λ e. no_program_id (headers-read v k.Identification k.Division 0 i one) (required-err _ i x e))
-        (λ j two e. no_name (then _ _ 0 i j (headers-read v k.Identification k.Division 0 i one) (header-read v k.ProgramId i j two)) (required-err _ j x e)))
+      (λ e. no_program_id (headers-read v k.Identification k.Division 0 i one) (required-err _ i x e))
+      (λ j two e. no_name (then _ _ 0 i j (headers-read v k.Identification k.Division 0 i one) (header-read v k.ProgramId i j two)) (required-err _ j x e)))
 
   computer-refused : (term : Term) (i : ℕ) (x : Refused) → computer v term i ≡ Err x → ComputerRefused v term i x
   unfolding computer name_unit
@@ -109,8 +109,8 @@ module _ (v : View) where
       let G : Type 0 = ComputerRefused v term i x in
       there-err (header v term i) i (λ m. so (name_unit v m) (λ n l. Ok l)) x G h
       (λ m is rest. so-err (name_unit v m) (λ n l. Ok l) x G rest
-        (λ e. record { at_name = m; header = header-sound v term i m is; name = required-err _ m x e })
-        (λ n l read over. absurd (cc)))
+      (λ e. record { at_name = m; header = header-sound v term i m is; name = required-err _ m x e })
+      (λ n l read over. absurd (cc)))
 
   select-refused : (ss : List Select) (i : ℕ) (x : Refused) → next_select v ss i ≡ Err x → Unread v (select v i) i x
   unfolding next_select select_unit
@@ -129,10 +129,10 @@ module _ (v : View) where
       let G : Type 0 = EnvironmentRefused v i x in
       there-err (headers v k.Configuration k.Section m) m (λ l. so_at (computer v k.SourceComputer l) (computer v k.ObjectComputer)) x G h
       (λ l is rest.
-        let two = headers-sound v k.Configuration k.Section m l is in
-        so_at-err (computer v k.SourceComputer l) (computer v k.ObjectComputer) x G rest
-        (λ e. no_source (then _ _ i m l one two) (computer-refused k.SourceComputer l x e))
-        (λ q read e. no_object (then _ _ i m q one (then _ _ m l q two (computer-sound v k.SourceComputer l q read))) (computer-refused k.ObjectComputer q x e)))
+      let two = headers-sound v k.Configuration k.Section m l is in
+      so_at-err (computer v k.SourceComputer l) (computer v k.ObjectComputer) x G rest
+      (λ e. no_source (then _ _ i m l one two) (computer-refused k.SourceComputer l x e))
+      (λ q read e. no_object (then _ _ i m q one (then _ _ m l q two (computer-sound v k.SourceComputer l q read))) (computer-refused k.ObjectComputer q x e)))
 
   input-output-refused : (i m l : ℕ) (x : Refused) → Headers v k.Environment k.Division i m → Configuration v m l → input_output v l ≡ Err x
       → EnvironmentRefused v i x
@@ -141,13 +141,13 @@ module _ (v : View) where
       let G : Type 0 = EnvironmentRefused v i x in
       there-err (headers v k.InputOutput k.Section l) ([], l) (λ q. so_at (required v (header v k.FileControl q) q) (more_selects v [])) x G h
       (λ q is rest.
-        let three = headers-sound v k.InputOutput k.Section l q is in
-        so_at-err (required v (header v k.FileControl q) q) (more_selects v []) x G rest
-        (λ e. no_file_control (then _ _ i m q one (then _ _ m l q two three)) (required-err _ q x e))
-        (λ u read e.
-          let end = selects-refused u x e in
-          no_select (then _ _ i m u one (then _ _ m l u two (then _ _ l q u three (header-read v k.FileControl q u read)))) end.before
-          (select-refused end.b end.middle x end.refused)))
+      let three = headers-sound v k.InputOutput k.Section l q is in
+      so_at-err (required v (header v k.FileControl q) q) (more_selects v []) x G rest
+      (λ e. no_file_control (then _ _ i m q one (then _ _ m l q two three)) (required-err _ q x e))
+      (λ u read e.
+      let end = selects-refused u x e in
+      no_select (then _ _ i m u one (then _ _ m l u two (then _ _ l q u three (header-read v k.FileControl q u read)))) end.before
+      (select-refused end.b end.middle x end.refused)))
 
   pub environment-refused : (i : ℕ) (x : Refused) → environment v i ≡ Err x → EnvironmentRefused v i x
   unfolding environment
@@ -155,10 +155,10 @@ module _ (v : View) where
       let G : Type 0 = EnvironmentRefused v i x in
       there-err (headers v k.Environment k.Division i) ([], i) (λ m. so_at (configuration v m) (input_output v)) x G h
       (λ m is rest.
-        let one = headers-sound v k.Environment k.Division i m is in
-        so_at-err (configuration v m) (input_output v) x G rest
-        (λ e. configuration-refused i m x one e)
-        (λ l read e. input-output-refused i m l x one (configuration-sound v m l read) e))
+      let one = headers-sound v k.Environment k.Division i m is in
+      so_at-err (configuration v m) (input_output v) x G rest
+      (λ e. configuration-refused i m x one e)
+      (λ l read e. input-output-refused i m l x one (configuration-sound v m l read) e))
 
 by-kind : (w : Word) (k : WordKind) (x : Refused) → IsReadingBy w k (reading.Refused x) → IsPictureOf w (reading.Refused x)
 by-kind w kind.Picture x a = a
@@ -210,11 +210,11 @@ module _ (v : View) (are : AreReadings v.text.words v.readings)
       so-err (required_at v (entry v i) i) (λ d m. before_next v (pictured v d) m) x G h
       (λ e. no_entry (required-err v _ i x e))
       (λ d m read rest.
-        let draft = entry-sound v i m d (required-ok v (entry v i) i (d, m) read) in
-        elim (pictured v d) as (λ (r : Result Entry Refused). pictured v d ≡ r → before_next v r m ≡ Err x → EntryRefused v i x) [
-          | Ok e ↦ λ q h. absurd (cc)
-          | Err y ↦ λ q h. picture-refused i m d x draft (q ∙ ap (λ z. Err z) (err_same {X = Entry × ℕ} y x h))
-        ] refl rest)
+      let draft = entry-sound v i m d (required-ok v (entry v i) i (d, m) read) in
+      elim (pictured v d) as (λ (r : Result Entry Refused). pictured v d ≡ r → before_next v r m ≡ Err x → EntryRefused v i x) [
+        | Ok e ↦ λ q h. absurd (cc)
+        | Err y ↦ λ q h. picture-refused i m d x draft (q ∙ ap (λ z. Err z) (err_same {X = Entry × ℕ} y x h))
+      ] refl rest)
 
   next-entry-refused : (es : List Entry) (i : ℕ) (x : Refused) → next_entry v es i ≡ Err x → EntryRefused v i x
   unfolding next_entry
@@ -240,16 +240,16 @@ module _ (v : View) (are : AreReadings v.text.words v.readings)
       so-err (next_entry v [] i) (λ es m. so (more_entries v es m) (λ all l. Ok (with_entries f all, l))) x G h
       (λ e. record { middle = i; es = []; before = none_left; refused = next-entry-refused [] i x e })
       (λ es m read rest. so-err (more_entries v es m) (λ all l. Ok (with_entries f all, l)) x G rest
-        (λ e.
-          let added = next-entry-sound v picture-sound [] i m es read in
-          let end = entries-refused es m x e in
-          record {
-            middle = end.middle;
-            es = end.b;
-            before = one_more added.item (subst (λ (ys : List Entry). Many (IsEntry v) with_last ys m end.middle end.b) added.is end.before);
-            refused = next-entry-refused end.b end.middle x end.refused;
-          })
-        (λ all l read over. absurd (cc)))
+      (λ e.
+      let added = next-entry-sound v picture-sound [] i m es read in
+      let end = entries-refused es m x e in
+      record {
+        middle = end.middle;
+        es = end.b;
+        before = one_more added.item (subst (λ (ys : List Entry). Many (IsEntry v) with_last ys m end.middle end.b) added.is end.before);
+        refused = next-entry-refused end.b end.middle x end.refused;
+      })
+      (λ all l read over. absurd (cc)))
 
   file-refused : (fs : List FileEntry) (i : ℕ) (x : Refused) → next_file v fs i ≡ Err x → FileRefused v i x
   unfolding next_file file_with_records file_unit
@@ -257,8 +257,8 @@ module _ (v : View) (are : AreReadings v.text.words v.readings)
       let G : Type 0 = FileRefused v i x in
       so-err (file_with_records v i) (λ y m. Ok (with_last fs y, m)) x G h
       (λ e. so-err (file_unit v i) (records v) x G e
-        (λ e. no_file (required-err v _ i x e))
-        (λ f m read rest. no_records (file-sound v i m f (required-ok v (file v i) i (f, m) read)) (records-refused f m x rest)))
+      (λ e. no_file (required-err v _ i x e))
+      (λ f m read rest. no_records (file-sound v i m f (required-ok v (file v i) i (f, m) read)) (records-refused f m x rest)))
       (λ y m read over. absurd (cc))
 
   files-refused : (i : ℕ) (x : Refused) → more_files v [] i ≡ Err x → EachErr (next_file v) (FileWithRecords v) with_last [] i x
@@ -271,14 +271,14 @@ module _ (v : View) (are : AreReadings v.text.words v.readings)
       let G : Type 0 = DataRefused v i x in
       there-err (headers v k.Data k.Division i) (record { files = []; storage = [] }, i) (data_sections v) x G h
       (λ m is rest.
-        let one = headers-sound v k.Data k.Division i m is in
-        so-err (file_section v m) (λ fs l. so (storage_section v l) (λ es q. Ok (record { files = fs; storage = es }, q))) x G rest
-        (λ e. there-err (headers v k.File k.Section m) ([], m) (more_files v []) x G e
-          (λ l there stopped.
-            let end = files-refused l x stopped in
-            no_files (record { middle = m; first = one; second = headers-sound v k.File k.Section m l there }) end.before (file-refused end.b end.middle x end.refused)))
-        (λ fs l read rest. so-err (storage_section v l) (λ es q. Ok (record { files = fs; storage = es }, q)) x G rest
-          (λ e. there-err (headers v k.WorkingStorage k.Section l) ([], l) (more_entries v []) x G e
-            (λ q there stopped.
-              no_storage one (file-section-sound v picture-sound m l fs read) (headers-sound v k.WorkingStorage k.Section l q there) (all-entries-refused q x stopped)))
-          (λ es q read over. absurd (cc))))
+      let one = headers-sound v k.Data k.Division i m is in
+      so-err (file_section v m) (λ fs l. so (storage_section v l) (λ es q. Ok (record { files = fs; storage = es }, q))) x G rest
+      (λ e. there-err (headers v k.File k.Section m) ([], m) (more_files v []) x G e
+      (λ l there stopped.
+      let end = files-refused l x stopped in
+      no_files (record { middle = m; first = one; second = headers-sound v k.File k.Section m l there }) end.before (file-refused end.b end.middle x end.refused)))
+      (λ fs l read rest. so-err (storage_section v l) (λ es q. Ok (record { files = fs; storage = es }, q)) x G rest
+      (λ e. there-err (headers v k.WorkingStorage k.Section l) ([], l) (more_entries v []) x G e
+      (λ q there stopped.
+      no_storage one (file-section-sound v picture-sound m l fs read) (headers-sound v k.WorkingStorage k.Section l q there) (all-entries-refused q x stopped)))
+      (λ es q read over. absurd (cc))))

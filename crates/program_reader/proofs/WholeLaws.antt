@@ -133,11 +133,11 @@ module _ (v : View) where
       let o : Opening = record { id = first.part; selects = second.part; division = third.part } in
       let same = ok_found o start.part third.end start.end third.rest in
       let rest : after_opening v o (procedure v (source_with v.text.words (cond_names o.division) program) third.end) ≡ Ok p =
-          subst (λ (j : ℕ). after_opening v o (procedure v (source_with v.text.words (cond_names o.division) program) j) ≡ Ok p) (sym same.1)
-          (subst (λ (q : Opening). after_opening v q (procedure v (source_with v.text.words (cond_names q.division) program) start.end) ≡ Ok p) (sym same.0) start.rest) in
+      subst (λ (j : ℕ). after_opening v o (procedure v (source_with v.text.words (cond_names o.division) program) j) ≡ Ok p) (sym same.1)
+      (subst (λ (q : Opening). after_opening v q (procedure v (source_with v.text.words (cond_names q.division) program) start.end) ≡ Ok p) (sym same.0) start.rest) in
       finished o third.end program p first.end second.end (procedure v (source_with v.text.words (cond_names o.division) program) third.end)
-          (identification-sound v 0 first.end first.part first.read) (environment-sound v first.end second.end second.part second.read)
-          (data-sound v (picture-sound a) second.end third.end third.part third.read) refl rest
+      (identification-sound v 0 first.end first.part first.read) (environment-sound v first.end second.end second.part second.read)
+      (data-sound v (picture-sound a) second.end third.end third.part third.read) refl rest
 
 pub read-sound : (words : List Word) (program : ℕ) (file : FileId) (p : Program) → IsAnswer words program file (Ok p) → IsRead words program file p
 read-sound words program file p a = record {

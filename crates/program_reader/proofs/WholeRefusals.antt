@@ -37,7 +37,7 @@ module _ (v : View) (are : AreReadings v.text.words v.readings) (program : ℕ) 
       let names = cond_names o.division in
       no_procedure first second third
       (procedure-refused v (source_with v.text.words names program) (SentenceAt v.text.words program names) (λ l n y next read. read) some.0 some.1 i x
-        (e ∙ ap (λ z. Err z) (err_same {X = Program} y x h)))
+      (e ∙ ap (λ z. Err z) (err_same {X = Program} y x h)))
 
   opening-refused : opening v ≡ Err x → G
   unfolding opening opening_rest opening_data
@@ -45,10 +45,10 @@ module _ (v : View) (are : AreReadings v.text.words v.readings) (program : ℕ) 
       so-err (identification v 0) (λ id j. opening_rest v id j) x G h
       (λ e. no_identification (identification-refused v x e))
       (λ id a one rest. so-err (environment v a) (λ selects j. opening_data v id selects j) x G rest
-        (λ e. no_environment (identification-sound v 0 a id one) (environment-refused v a x e))
-        (λ selects j two rest. so-err (data_division v j) (λ d l. Ok (record { id = id; selects = selects; division = d }, l)) x G rest
-          (λ e. no_data (identification-sound v 0 a id one) (environment-sound v a j selects two) (data-refused v are (picture-sound v are) j x e))
-          (λ d l read over. absurd (cc))))
+      (λ e. no_environment (identification-sound v 0 a id one) (environment-refused v a x e))
+      (λ selects j two rest. so-err (data_division v j) (λ d l. Ok (record { id = id; selects = selects; division = d }, l)) x G rest
+      (λ e. no_data (identification-sound v 0 a id one) (environment-sound v a j selects two) (data-refused v are (picture-sound v are) j x e))
+      (λ d l read over. absurd (cc))))
 
   after-refused : (o : Opening) (i : ℕ) → opening v ≡ Ok (o, i) → after_opening v o (procedure v (source_with v.text.words (cond_names o.division) program) i) ≡ Err x → G
   unfolding opening opening_rest opening_data
@@ -59,11 +59,11 @@ module _ (v : View) (are : AreReadings v.text.words v.readings) (program : ℕ) 
       let q : Opening = record { id = first.part; selects = second.part; division = third.part } in
       let same = ok_found q o third.end i third.rest in
       let moved : after_opening v q (procedure v (source_with v.text.words (cond_names q.division) program) third.end) ≡ Err x =
-          subst (λ (j : ℕ). after_opening v q (procedure v (source_with v.text.words (cond_names q.division) program) j) ≡ Err x) (sym same.1)
-          (subst (λ (y : Opening). after_opening v y (procedure v (source_with v.text.words (cond_names y.division) program) i) ≡ Err x) (sym same.0) rest) in
+      subst (λ (j : ℕ). after_opening v q (procedure v (source_with v.text.words (cond_names q.division) program) j) ≡ Err x) (sym same.1)
+      (subst (λ (y : Opening). after_opening v y (procedure v (source_with v.text.words (cond_names y.division) program) i) ≡ Err x) (sym same.0) rest) in
       procedure-by q first.end second.end third.end (procedure v (source_with v.text.words (cond_names q.division) program) third.end)
-          (identification-sound v 0 first.end first.part first.read) (environment-sound v first.end second.end second.part second.read)
-          (data-sound v (picture-sound v are) second.end third.end third.part third.read) refl moved
+      (identification-sound v 0 first.end first.part first.read) (environment-sound v first.end second.end second.part second.read)
+      (data-sound v (picture-sound v are) second.end third.end third.part third.read) refl moved
 
   pub whole-refused : whole v program ≡ Err x → G
   unfolding whole procedure_with

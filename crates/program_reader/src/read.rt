@@ -88,7 +88,11 @@ fn add_names(alloc: Global, names: &mut List<Bytes>, mut entries: &[Entry]) -> R
 }
 
 /// Adds the condition-names of the entries under FDs.
-fn add_file_names(alloc: Global, names: &mut List<Bytes>, mut files: &[FileEntry]) -> Result<(), Memory>
+fn add_file_names(
+    alloc: Global,
+    names: &mut List<Bytes>,
+    mut files: &[FileEntry],
+) -> Result<(), Memory>
     ensures { IfOk result (λ _. names.new ≡ names.old ++ spec.file_names files.entry.now) }
 {
     while let [file, rest @ ..] = files {
@@ -106,7 +110,14 @@ impl<'a> Units<'a> {
     {
         match self.data_division(at)? {
             Err(refused) => Ok(Err(refused)),
-            Ok((division, next)) => Ok(Ok((Opening { id, selects, division }, next))),
+            Ok((division, next)) => Ok(Ok((
+                Opening {
+                    id,
+                    selects,
+                    division,
+                },
+                next,
+            ))),
         }
     }
 
@@ -134,7 +145,12 @@ impl<'a> Units<'a> {
 
     /// The procedure division in a program with these condition-names.
     #[tactic(auto, unfolding(crate::specs::Whole::procedure_with))]
-    fn procedure_with(&self, names: &CondNames, program: u32, at: u32) -> Result<Result<List<Paragraph>, Refused>, Memory>
+    fn procedure_with(
+        &self,
+        names: &CondNames,
+        program: u32,
+        at: u32,
+    ) -> Result<Result<List<Paragraph>, Refused>, Memory>
         requires { length self.now.parts.words.now < 2 ^ 32 }
         ensures { IfOk result (λ r. r ≡ spec.procedure_with (view_of self.now) names.now.list program at) }
     {
@@ -181,7 +197,12 @@ fn copy_words(alloc: Global, copies: &mut List<Word>, words: &[Word]) -> Result<
 }
 
 /// The program of words, or why they are none.
-fn read_words(alloc: Global, words: &[Word], program: u32, file: FileId) -> Result<Result<Program, Refused>, Memory>
+fn read_words(
+    alloc: Global,
+    words: &[Word],
+    program: u32,
+    file: FileId,
+) -> Result<Result<Program, Refused>, Memory>
     requires { length words.now < 2 ^ 32 }
     ensures { IfOk result (spec.IsAnswer words.now program file) }
 {
@@ -201,7 +222,12 @@ fn read_words(alloc: Global, words: &[Word], program: u32, file: FileId) -> Resu
 }
 
 /// The program that the expanded words are, the number `program` of its portfolio; `file` is its text.
-pub fn read_program(alloc: Global, expanded: &Expanded, program: u32, file: FileId) -> Result<Program, ReadFault>
+pub fn read_program(
+    alloc: Global,
+    expanded: &Expanded,
+    program: u32,
+    file: FileId,
+) -> Result<Program, ReadFault>
     ensures read { IfOk result (IsRead expanded.now.words program file) }
     ensures exact { IfOk result (λ p. spec.IsAnswer expanded.now.words program file (Ok p)) }
     ensures refused { IfErr result (HasReadFault expanded.now.words program file) }
