@@ -221,7 +221,14 @@ fn read_words(
     units.whole(program)
 }
 
-/// The program that the expanded words are, the number `program` of its portfolio; `file` is its text.
+/// The program that the expanded words of a text are: its divisions as ISO 1989:1985 has them, with the clauses that
+/// this project takes. `program` is its number in the portfolio, which the ids of its statements carry, and `file` is
+/// its text. Positions of the tree count words from 0; `picture_at` is 0 where there is no PICTURE clause.
+///
+/// The text is read unit by unit; a unit is the words up to and with a period. The first unit without a reading is
+/// refused at its first word: `NestDeep` where more than 64 of its words open a level, else `UnitShape`. Where a unit is
+/// missing, `UnitShape` stands at the last word, or at line 1, column 1 of `file` where there are no words. In an entry
+/// that has a reading the string of its PICTURE clause is refused at its own place, with the fault of `read_picture`.
 pub fn read_program(
     alloc: Global,
     expanded: &Expanded,
