@@ -55,14 +55,14 @@ module _ (v : View) (t : Source) (IsSentence : ℕ → ℕ → Sentence → Spot
   each-sentence (suc n) b i x h =
       if_either (begins_sentence v i) _ _ (Err x) (Stopped i b.number x) h
       (λ is begun. so-err (next_sentence v t b i) (λ c m. each (begins_sentence v) (next_sentence v t) n c m) x (Stopped i b.number x) begun
-        (λ e. sentence-refused b i x e)
-        (λ c m read rest.
-          let one = next-sound v t IsSentence sentence-sound b c i m read in
-          let stopped = each-sentence n c m x rest in
-          let moved : Sentences IsSentence one.next.at one.next.number stopped.xs stopped.end =
-              subst (λ (q : ℕ). Sentences IsSentence one.next.at q stopped.xs stopped.end) one.number
-              (subst (λ (q : ℕ). Sentences IsSentence q c.number stopped.xs stopped.end) one.at stopped.before) in
-          record { end = stopped.end; xs = one.x ∷ stopped.xs; before = one_sentence one.read moved; nothing = stopped.nothing; is = stopped.is }))
+      (λ e. sentence-refused b i x e)
+      (λ c m read rest.
+      let one = next-sound v t IsSentence sentence-sound b c i m read in
+      let stopped = each-sentence n c m x rest in
+      let moved : Sentences IsSentence one.next.at one.next.number stopped.xs stopped.end =
+      subst (λ (q : ℕ). Sentences IsSentence one.next.at q stopped.xs stopped.end) one.number
+      (subst (λ (q : ℕ). Sentences IsSentence q c.number stopped.xs stopped.end) one.at stopped.before) in
+      record { end = stopped.end; xs = one.x ∷ stopped.xs; before = one_sentence one.read moved; nothing = stopped.nothing; is = stopped.is }))
       (λ is over. absurd (cc))
 
   body-refused : (cs : Chapters) (h : Heading) (begin i : ℕ) (x : Refused) → with_body v t cs h begin i ≡ Err x → Stopped i cs.number x
@@ -88,8 +88,8 @@ module _ (v : View) (t : Source) (IsSentence : ℕ → ℕ → Sentence → Spot
       let G : Type 0 = ParagraphsRefused v IsSentence Nothing i cs.number x in
       if_either (not (sees v.text s.End i)) _ _ (Err x) G h
       (λ is begun. so-err (next_paragraph v t cs i) (λ d m. each (λ i. not (sees v.text s.End i)) (next_paragraph v t) n d m) x G begun
-        (λ e. here (paragraph-refused cs i x e))
-        (λ d m read rest. later (next-paragraph-sound v t IsSentence sentence-sound cs d i m read).read (each-paragraph n d m x rest)))
+      (λ e. here (paragraph-refused cs i x e))
+      (λ d m read rest. later (next-paragraph-sound v t IsSentence sentence-sound cs d i m read).read (each-paragraph n d m x rest)))
       (λ is over. absurd (cc))
 
   paragraphs-refused : (cs : Chapters) (i : ℕ) (x : Refused) → more_paragraphs v t cs i ≡ Err x → ParagraphsRefused v IsSentence Nothing i cs.number x
@@ -109,17 +109,17 @@ module _ (v : View) (t : Source) (IsSentence : ℕ → ℕ → Sentence → Spot
       if_either (sees v.text s.End i) _ _ (Err x) G q
       (λ is e. missing (same-true _ _ is) (sym (err_same {X = Chapters × ℕ} (fault v i) x e)))
       (λ is begun. so-err (unnamed v t nothing_yet i) (more_paragraphs v t) x G begun
-        (λ e. if_either (begins_sentence v i) _ _ (Err x) G e
-          (λ sentence stopped. no_unnamed (body-refused nothing_yet nameless i i x stopped))
-          (λ none over. absurd (cc)))
-        (λ cs m read rest. if_either (begins_sentence v i) _ _ (Ok (cs, m)) G read
-          (λ sentence body.
-            let one = body-sound v t IsSentence sentence-sound nothing_yet cs nameless i i m body in
-            after_unnamed one.read (paragraphs-refused cs m x rest))
-          (λ none same.
-            let at = ok_found nothing_yet cs i m same in
-            no_paragraphs (subst (λ (j : ℕ). ParagraphsRefused v IsSentence Nothing j 0 x) (sym at.1)
-              (subst (λ (y : Chapters). ParagraphsRefused v IsSentence Nothing m y.number x) (sym at.0) (paragraphs-refused cs m x rest))))))
+      (λ e. if_either (begins_sentence v i) _ _ (Err x) G e
+      (λ sentence stopped. no_unnamed (body-refused nothing_yet nameless i i x stopped))
+      (λ none over. absurd (cc)))
+      (λ cs m read rest. if_either (begins_sentence v i) _ _ (Ok (cs, m)) G read
+      (λ sentence body.
+      let one = body-sound v t IsSentence sentence-sound nothing_yet cs nameless i i m body in
+      after_unnamed one.read (paragraphs-refused cs m x rest))
+      (λ none same.
+      let at = ok_found nothing_yet cs i m same in
+      no_paragraphs (subst (λ (j : ℕ). ParagraphsRefused v IsSentence Nothing j 0 x) (sym at.1)
+      (subst (λ (y : Chapters). ParagraphsRefused v IsSentence Nothing m y.number x) (sym at.0) (paragraphs-refused cs m x rest))))))
 
   pub procedure-refused : (n : ℕ) → length v.terms ≡ suc n → (i : ℕ) (x : Refused) → procedure v t i ≡ Err x → ProcedureRefused v IsSentence Nothing i x
   unfolding procedure closed required
@@ -128,12 +128,12 @@ module _ (v : View) (t : Source) (IsSentence : ℕ → ℕ → Sentence → Spot
       so_at-err (required v (headers v k.Procedure k.Division i) i) (λ j. so (chapters v t j) (closed v)) x G q
       (λ e. no_division (required-err v (headers v k.Procedure k.Division i) i x e))
       (λ m read rest.
-        let one = headers-read v k.Procedure k.Division i m read in
-        so-err (chapters v t m) (closed v) x G rest
-        (λ e. no_chapters one (chapters-refused m x e))
-        (λ cs j done open. if_either (sees v.text s.End j) _ _ (Err x) G open
-          (λ is e. absurd (cc))
-          (λ is e.
-            let chapter = chapters-sound v t IsSentence sentence-sound n long cs m j done in
-            let more : symbol v.text j ≢ s.End = λ end. (let seen = sees-is v.text s.End j end in cc) in
-            no_chapters one (beyond chapter.1 more (sym (err_same (fault v j) x e))))))
+      let one = headers-read v k.Procedure k.Division i m read in
+      so-err (chapters v t m) (closed v) x G rest
+      (λ e. no_chapters one (chapters-refused m x e))
+      (λ cs j done stopped. if_either (sees v.text s.End j) _ _ (Err x) G stopped
+      (λ is e. absurd (cc))
+      (λ is e.
+      let chapter = chapters-sound v t IsSentence sentence-sound n long cs m j done in
+      let more : symbol v.text j ≢ s.End = λ end. (let seen = sees-is v.text s.End j end in cc) in
+      no_chapters one (beyond chapter.1 more (sym (err_same (fault v j) x e))))))
