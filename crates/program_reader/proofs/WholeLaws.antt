@@ -14,7 +14,7 @@ use Rattle.cobol_syntax.specs.declared.program.Program.{Program}
 use Rattle.cobol_syntax.specs.declared.program.Sentence.{Sentence}
 use Rattle.cond_reader.specs.Text.{spelling, text_at}
 use Rattle.proc_reader.specs.declared.spot.Spot.{Spot}
-use Rattle.proc_reader.specs.Sentences.{sentence}
+use Rattle.proc_reader.proofs.SentenceLaws.{sentence-sound}
 use Rattle.program_reader.specs.declared.data.Data.{Data}
 use Rattle.program_reader.specs.declared.entry.Draft.{Draft}
 use Rattle.program_reader.specs.declared.entry.EntryPart.{EntryPart}
@@ -118,7 +118,7 @@ module _ (v : View) where
         identification = first;
         environment = second;
         sections = third;
-        procedure = procedure-sound v (source_with v.text.words (cond_names o.division) program) (SentenceAt v.text.words program (cond_names o.division)) (λ l n x next read. read)
+        procedure = procedure-sound v (source_with v.text.words (cond_names o.division) program) (SentenceAt v.text.words program (cond_names o.division)) (λ l n x next read. sentence-sound (source_with v.text.words (cond_names o.division) program) 64 (record { at = l; number = n }) next x read)
             some.0 some.1 paragraphs i e;
         is = sym (ok_same (program_after v.text.words o paragraphs) p h);
       }

@@ -6,6 +6,7 @@ use Rattle.y2k_base.specs.declared.word.Word.{Word}
 use Rattle.cobol_syntax.specs.declared.program.Paragraph.{Paragraph}
 use Rattle.cobol_syntax.specs.declared.program.Program.{Program}
 use Rattle.cobol_syntax.specs.declared.program.Select.{Select}
+use Rattle.proc_reader.proofs.SentenceLaws.{sentence-sound}
 use Rattle.program_reader.specs.declared.data.Data.{Data}
 use Rattle.program_reader.specs.declared.fault.Refused.{Refused}
 use Rattle.program_reader.specs.declared.read.Opening.{Opening}
@@ -36,7 +37,7 @@ module _ (v : View) (are : AreReadings v.text.words v.readings) (program : ℕ) 
       let some = nonempty v v.terms k.Identification first.headers.first.first.term_is in
       let names = cond_names o.division in
       no_procedure first second third
-      (procedure-refused v (source_with v.text.words names program) (SentenceAt v.text.words program names) (λ l n y next read. read) some.0 some.1 i x
+      (procedure-refused v (source_with v.text.words names program) (SentenceAt v.text.words program names) (λ l n y next read. sentence-sound (source_with v.text.words names program) 64 (record { at = l; number = n }) next y read) some.0 some.1 i x
       (e ∙ ap (λ z. Err z) (err_same {X = Program} y x h)))
 
   opening-refused : opening v ≡ Err x → G

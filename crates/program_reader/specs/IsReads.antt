@@ -5,6 +5,7 @@ use Rattle.y2k_base.specs.declared.word.Word.{Word}
 use Rattle.cobol_syntax.specs.declared.program.Program.{Program}
 use Rattle.cobol_syntax.specs.declared.program.Sentence.{Sentence}
 use Rattle.proc_reader.specs.declared.spot.Spot.{Spot}
+use Rattle.proc_reader.specs.SentenceGrammar.{IsSentence}
 use Rattle.proc_reader.specs.Sentences.{sentence}
 use Rattle.program_reader.specs.declared.fault.ReadFault.{ReadFault}
 use Rattle.program_reader.specs.declared.fault.ReadFault.TheVariants as fault
@@ -15,9 +16,9 @@ use Rattle.program_reader.specs.Whole.{source_with, view_with}
 use Rattle.program_reader.specs.ProgramGrammar.{IsProgram}
 use Rattle.program_reader.specs.RefusalGrammar.{IsRefused}
 
--- the sentence that is read at a position of these words, with these condition-names, and the spot after it
+-- the sentence at a position of these words, with these condition-names, and the spot after it
 abbrev pub SentenceAt : List Word → ℕ → List (List ℕ) → ℕ → ℕ → Sentence → Spot → Type 0
-SentenceAt words program names i n x next = sentence (source_with words names program) 64 (record { at = i; number = n }) ≡ Some (x, next)
+SentenceAt words program names i n x next = IsSentence (source_with words names program) 64 (record { at = i; number = n }) next x
 
 -- The words are this program by the grammar, with what their PICTURE strings read as.
 pub record IsRead (words : List Word) (program : ℕ) (file : FileId) (p : Program) : Type 0 where
@@ -25,6 +26,7 @@ pub record IsRead (words : List Word) (program : ℕ) (file : FileId) (p : Progr
   pub are_readings : AreReadings words readings
   pub is_program : IsProgram (view_with words readings file) (SentenceAt words program) p
 
+-- no sentence is read at a position
 abbrev pub NoSentenceAt : List Word → ℕ → List (List ℕ) → ℕ → ℕ → Type 0
 NoSentenceAt words program names i n = sentence (source_with words names program) 64 (record { at = i; number = n }) ≡ None
 
