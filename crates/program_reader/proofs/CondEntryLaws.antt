@@ -36,14 +36,14 @@ module _ (v : View) where
       let first = constant-sound v i low.end low.part low.read in
       if_either (has v k.Through low.end) _ _ (Some (x, j)) (IsRange v i j x) low.rest
       (λ is read.
-        let high = then_some (constant v.text (low.end + 1)) (λ y m. Some (record { low = low.part; high = Some y }, m)) (x, j) read in
-        let same = found (record { low = low.part; high = Some high.part }) x high.end j high.rest in
-        let whole : IsRange v i high.end (record { low = low.part; high = Some high.part }) =
-            of_through first (has-sound v k.Through low.end is) (constant-sound v (low.end + 1) high.end high.part high.read) in
-        subst (λ (l : ℕ). IsRange v i l x) same.1 (subst (λ (y : Range). IsRange v i high.end y) same.0 whole))
+      let high = then_some (constant v.text (low.end + 1)) (λ y m. Some (record { low = low.part; high = Some y }, m)) (x, j) read in
+      let same = found (record { low = low.part; high = Some high.part }) x high.end j high.rest in
+      let whole : IsRange v i high.end (record { low = low.part; high = Some high.part }) =
+      of_through first (has-sound v k.Through low.end is) (constant-sound v (low.end + 1) high.end high.part high.read) in
+      subst (λ (l : ℕ). IsRange v i l x) same.1 (subst (λ (y : Range). IsRange v i high.end y) same.0 whole))
       (λ _ read.
-        let same = found (record { low = low.part; high = None }) x low.end j read in
-        subst (λ (l : ℕ). IsRange v i l x) same.1 (subst (λ (y : Range). IsRange v i low.end y) same.0 (of_value first)))
+      let same = found (record { low = low.part; high = None }) x low.end j read in
+      subst (λ (l : ℕ). IsRange v i l x) same.1 (subst (λ (y : Range). IsRange v i low.end y) same.0 (of_value first)))
 
   more-ranges-sound : (rs : List Range) (i : ℕ) → Many (IsRange v) with_last rs i (more_ranges v rs i).1 (more_ranges v rs i).0
   unfolding more_ranges

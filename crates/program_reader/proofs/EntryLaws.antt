@@ -65,7 +65,7 @@ module _ (v : View) where
       let step = then_some (count v (i + 1)) (λ n l. Some (p.Occurs n, past v k.Times l)) (x, j) h in
       let same = found (p.Occurs step.part) x (past v k.Times step.end) j step.rest in
       let whole : EntryClause v i (past v k.Times step.end) (p.Occurs step.part) =
-          of_occurs (has-sound v k.Occurs i is) (count-sound v (i + 1) step.end step.part step.read) (past-sound v k.Times step.end) in
+      of_occurs (has-sound v k.Occurs i is) (count-sound v (i + 1) step.end step.part step.read) (past-sound v k.Times step.end) in
       subst (λ (l : ℕ). EntryClause v i l x) same.1 (subst (λ (y : EntryPart). EntryClause v i (past v k.Times step.end) y) same.0 whole)
 
   value-sound : (i j : ℕ) (x : EntryPart) → has v k.Value i ≡ true → value_part v (i + 1) ≡ Some (x, j) → EntryClause v i j x
@@ -97,9 +97,9 @@ module _ (v : View) where
       let G : EntryPart × ℕ → Type 0 = λ q. EntryClause v i q.1 q.0 in
       if_either (has v k.Separate (m + 1)) _ _ (x, j) (EntryClause v i j x) h
       (λ more e.
-        let rest : Then (A v k.Separate) (Maybe (A v k.Character)) (m + 1) (past v k.Character (m + 1 + 1)) =
-            after k.Separate _ (m + 1) (past v k.Character (m + 1 + 1)) more (past-sound v k.Character (m + 1 + 1)) in
-        subst G e (sign_is head (long-end b m (past v k.Character (m + 1 + 1)) is rest)))
+      let rest : Then (A v k.Separate) (Maybe (A v k.Character)) (m + 1) (past v k.Character (m + 1 + 1)) =
+      after k.Separate _ (m + 1) (past v k.Character (m + 1 + 1)) more (past-sound v k.Character (m + 1 + 1)) in
+      subst G e (sign_is head (long-end b m (past v k.Character (m + 1 + 1)) is rest)))
       (λ _ e. subst G e (sign_is head (short-end b m is)))
 
   some_pair : (a b : EntryPart × ℕ) → Some a ≡ Some b → a ≡ b
@@ -112,8 +112,8 @@ module _ (v : View) where
       if_either (has v k.Leading m) _ _ (Some (x, j)) (EntryClause v i j x) h
       (λ is read. sign-end true i m j x (word-is-sound k.Sign i) is (some_pair (sign_rest v true (m + 1)) (x, j) read))
       (λ _ rest.
-        let parts = if_some (has v k.Trailing m) (Some (sign_rest v false (m + 1))) (x, j) rest in
-        sign-end false i m j x (word-is-sound k.Sign i) parts.0 (some_pair (sign_rest v false (m + 1)) (x, j) parts.1))
+      let parts = if_some (has v k.Trailing m) (Some (sign_rest v false (m + 1))) (x, j) rest in
+      sign-end false i m j x (word-is-sound k.Sign i) parts.0 (some_pair (sign_rest v false (m + 1)) (x, j) parts.1))
 
   usage-with : (i m j : ℕ) (x : EntryPart) (u : Usage) → Maybe (Then (A v k.Usage) (Maybe (S v s.Is))) i m → UsageWord v m (m + 1) u
       → ◌≡◌ {A = Option (EntryPart × ℕ)} (Some (p.Usage u, m + 1)) (Some (x, j)) → EntryClause v i j x
@@ -129,10 +129,10 @@ module _ (v : View) where
       if_either (has v k.Display m) _ _ (Some (x, j)) (EntryClause v i j x) h
       (λ is read. usage-with i m j x usage.Display head (display (has-sound v k.Display m is)) read)
       (λ _ rest. if_either (has v k.Binary m) _ _ (Some (x, j)) (EntryClause v i j x) rest
-        (λ is read. usage-with i m j x usage.Binary head (binary (has-sound v k.Binary m is)) read)
-        (λ _ rest.
-          let parts = if_some (has v k.Packed m) _ (x, j) rest in
-          usage-with i m j x usage.Packed head (packed (has-sound v k.Packed m parts.0)) parts.1))
+      (λ is read. usage-with i m j x usage.Binary head (binary (has-sound v k.Binary m is)) read)
+      (λ _ rest.
+      let parts = if_some (has v k.Packed m) _ (x, j) rest in
+      usage-with i m j x usage.Packed head (packed (has-sound v k.Packed m parts.0)) parts.1))
 
   form-sound : (i j : ℕ) (x : EntryPart) → form_part v i ≡ Some (x, j) → EntryClause v i j x
   unfolding form_part
@@ -148,10 +148,10 @@ module _ (v : View) where
       if_either (has v k.Picture i) _ _ (Some (x, j)) (EntryClause v i j x) h
       (λ is read. picture-sound i j x is read)
       (λ _ rest. if_either (has v k.Occurs i) _ _ (Some (x, j)) (EntryClause v i j x) rest
-        (λ is read. occurs-sound i j x is read)
-        (λ _ rest. if_either (has v k.Value i) _ _ (Some (x, j)) (EntryClause v i j x) rest
-          (λ is read. value-sound i j x is read)
-          (λ _ read. form-sound i j x read)))
+      (λ is read. occurs-sound i j x is read)
+      (λ _ rest. if_either (has v k.Value i) _ _ (Some (x, j)) (EntryClause v i j x) rest
+      (λ is read. value-sound i j x is read)
+      (λ _ read. form-sound i j x read)))
 
   next-sound : (d : Draft) (i j : ℕ) (x : EntryPart) → next_entry_part v d i ≡ Some (x, j) → EntryClause v i j x × (has_part d x ≡ false)
   unfolding next_entry_part
@@ -159,9 +159,10 @@ module _ (v : View) where
       let step = then_some (entry_part v i) (unless_there v d) (x, j) h in
       let free = if_not (has_part d step.part) (Some (step.part, step.end)) (x, j) step.rest in
       let same = found step.part x step.end j free.1 in
-      let read = part-sound i step.end step.part step.read in
-      (subst (λ (l : ℕ). EntryClause v i l x) same.1 (subst (λ (y : EntryPart). EntryClause v i step.end y) same.0 read),
-        subst (λ (y : EntryPart). has_part d y ≡ false) same.0 free.0)
+      let read = part-sound i step.end step.part step.read in (
+        subst (λ (l : ℕ). EntryClause v i l x) same.1 (subst (λ (y : EntryPart). EntryClause v i step.end y) same.0 read),
+        subst (λ (y : EntryPart). has_part d y ≡ false) same.0 free.0,
+      )
 
   parts-sound : (d : Draft) (i : ℕ)
       → Clauses has_part with_part (EntryClause v) d i (more_entry_parts v d i).1 (more_entry_parts v d i).0
@@ -176,7 +177,7 @@ module _ (v : View) where
   unfolding entry_name
   entry-name-sound i =
       elim (has v k.Filler i) as (λ (b : Bool). has v k.Filler i ≡ b
-        → EntryName v i (if b then (None, i + 1) else given_or_none i (name v.text i)).1 (if b then (None, i + 1) else given_or_none i (name v.text i)).0) [
+      → EntryName v i (if b then (None, i + 1) else given_or_none i (name v.text i)).1 (if b then (None, i + 1) else given_or_none i (name v.text i)).0) [
         | true ↦ λ e. filler (has-sound v k.Filler i e)
         | false ↦ λ e. name-sound-or i (name v.text i) refl
       ] refl
@@ -186,13 +187,13 @@ module _ (v : View) where
   redefined-sound i j r h =
       if_either (has v k.Redefines i) _ _ (Some (r, j)) (Redefined v i j r) h
       (λ is read.
-        let step = then_some (name v.text (i + 1)) (λ n l. Some (Some n, l)) (r, j) read in
-        let same = found (Some step.part) r step.end j step.rest in
-        let whole : Redefined v i step.end (Some step.part) = of_redefines (has-sound v k.Redefines i is) (name-sound v (i + 1) step.end step.part step.read) in
-        subst (λ (l : ℕ). Redefined v i l r) same.1 (subst (λ (y : Option (List ℕ)). Redefined v i step.end y) same.0 whole))
+      let step = then_some (name v.text (i + 1)) (λ n l. Some (Some n, l)) (r, j) read in
+      let same = found (Some step.part) r step.end j step.rest in
+      let whole : Redefined v i step.end (Some step.part) = of_redefines (has-sound v k.Redefines i is) (name-sound v (i + 1) step.end step.part step.read) in
+      subst (λ (l : ℕ). Redefined v i l r) same.1 (subst (λ (y : Option (List ℕ)). Redefined v i step.end y) same.0 whole))
       (λ _ read.
-        let same = found None r i j read in
-        subst (λ (l : ℕ). Redefined v i l r) same.1 (subst (λ (y : Option (List ℕ)). Redefined v i i y) same.0 nothing))
+      let same = found None r i j read in
+      subst (λ (l : ℕ). Redefined v i l r) same.1 (subst (λ (y : Option (List ℕ)). Redefined v i i y) same.0 nothing))
 
   item-sound : (i m j l n : ℕ) (d : Draft) → Count v i m n → level_of n ≡ Some l → entry_rest v l i m ≡ Some (d, j) → IsItem v i j d
   unfolding entry_rest entry_end

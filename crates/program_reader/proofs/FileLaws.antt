@@ -133,12 +133,12 @@ module _ (v : View) where
       if_either (has v k.Label i) _ _ (Some j) (Idle v i j) h
       (λ is read. is_label (after k.Label _ i j is (label-sound (i + 1) j read)))
       (λ _ rest. if_either (has v k.Block i) _ _ (Some j) (Idle v i j) rest
-        (λ is read. is_block (after k.Block _ i j is (block-sound (i + 1) j read)))
-        (λ _ rest. if_either (has v k.Data i) _ _ (Some j) (Idle v i j) rest
-          (λ is read. is_data (after k.Data _ i j is (data-sound (i + 1) j read)))
-          (λ _ rest.
-            let parts = if_some (has v k.Recording i) (recording v (i + 1)) j rest in
-            is_recording (after k.Recording _ i j parts.0 (recording-sound (i + 1) j parts.1)))))
+      (λ is read. is_block (after k.Block _ i j is (block-sound (i + 1) j read)))
+      (λ _ rest. if_either (has v k.Data i) _ _ (Some j) (Idle v i j) rest
+      (λ is read. is_data (after k.Data _ i j is (data-sound (i + 1) j read)))
+      (λ _ rest.
+      let parts = if_some (has v k.Recording i) (recording v (i + 1)) j rest in
+      is_recording (after k.Recording _ i j parts.0 (recording-sound (i + 1) j parts.1)))))
 
   contains-sound : (i j : ℕ) (x : FilePart) → has v k.Record i ≡ true → record_contains v (i + 1) ≡ Some (x, j) → FileClause v i j x
   unfolding record_contains
@@ -152,7 +152,7 @@ module _ (v : View) where
       let ends : first.end ≡ second.end = number.word.next_is ∙ sym (constant-next v start second.end second.part written) in
       let head : Then (A v k.Record) (Maybe (A v k.Contains)) i start = after k.Record _ i start is (past-sound v k.Contains (i + 1)) in
       let whole : FileClause v i (past v k.Characters second.end) (p.Contains second.part) =
-          contains_clause head (subst (λ (m : ℕ). Count v start m first.part) ends number) written (past-sound v k.Characters second.end) in
+      contains_clause head (subst (λ (m : ℕ). Count v start m first.part) ends number) written (past-sound v k.Characters second.end) in
       subst (λ (l : ℕ). FileClause v i l x) same.1 (subst (λ (y : FilePart). FileClause v i (past v k.Characters second.end) y) same.0 whole)
 
   part-sound : (i j : ℕ) (x : FilePart) → file_part v i ≡ Some (x, j) → FileClause v i j x
@@ -161,12 +161,12 @@ module _ (v : View) where
       if_either (has v k.Record i) _ _ (Some (x, j)) (FileClause v i j x) h
       (λ is read. contains-sound i j x is read)
       (λ _ rest.
-        elim (idle_part v i) as (λ (r : Option ℕ). idle_part v i ≡ r → idle r ≡ Some (x, j) → FileClause v i j x) [
-          | None ↦ λ e h. absurd (cc)
-          | Some m ↦ λ e h.
-              let same = found p.Idle x m j h in
-              subst (λ (y : FilePart). FileClause v i j y) same.0 (idle_clause (subst (λ (l : ℕ). Idle v i l) same.1 (idle-sound i m e)))
-        ] refl rest)
+      elim (idle_part v i) as (λ (r : Option ℕ). idle_part v i ≡ r → idle r ≡ Some (x, j) → FileClause v i j x) [
+        | None ↦ λ e h. absurd (cc)
+        | Some m ↦ λ e h.
+            let same = found p.Idle x m j h in
+            subst (λ (y : FilePart). FileClause v i j y) same.0 (idle_clause (subst (λ (l : ℕ). Idle v i l) same.1 (idle-sound i m e)))
+      ] refl rest)
 
   next-sound : (c : Option Operand) (i j : ℕ) (x : FilePart) → next_file_part v c i ≡ Some (x, j) → FileClause v i j x × (is_second c x ≡ false)
   unfolding next_file_part
@@ -174,9 +174,10 @@ module _ (v : View) where
       let step = then_some (file_part v i) (unless_second v c) (x, j) h in
       let free = if_not (is_second c step.part) (Some (step.part, step.end)) (x, j) step.rest in
       let same = found step.part x step.end j free.1 in
-      let read = part-sound i step.end step.part step.read in
-      (subst (λ (l : ℕ). FileClause v i l x) same.1 (subst (λ (y : FilePart). FileClause v i step.end y) same.0 read),
-        subst (λ (y : FilePart). is_second c y ≡ false) same.0 free.0)
+      let read = part-sound i step.end step.part step.read in (
+        subst (λ (l : ℕ). FileClause v i l x) same.1 (subst (λ (y : FilePart). FileClause v i step.end y) same.0 read),
+        subst (λ (y : FilePart). is_second c y ≡ false) same.0 free.0,
+      )
 
   parts-sound : (c : Option Operand) (i : ℕ)
       → Clauses is_second with_file_part (FileClause v) c i (more_file_parts v c i).1 (more_file_parts v c i).0

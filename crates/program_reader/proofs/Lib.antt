@@ -5,9 +5,12 @@ pub mod FileLaws
 pub mod NameRuns
 pub mod PartLaws
 pub mod ProcedureLaws
+pub mod ProcedureRefusals
 pub mod ProgramLaws
 pub mod ReadingLaws
+pub mod RefusalLaws
 pub mod SelectLaws
 pub mod Steps
 pub mod Tables
 pub mod WholeLaws
+pub mod WholeRefusals

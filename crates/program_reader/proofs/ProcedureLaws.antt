@@ -46,7 +46,7 @@ module _ (v : View) where
       let unit : NameUnit v i j n = record { middle = m; name = name-sound v i m n read; period = ended-sound v m j end.1 } in
       subst (λ (x : Heading). IsHeading v i j x) end.0 (is_paragraph unit)
 
-  heading-sound : (i j : ℕ) (h : Heading) → heading v i ≡ Some (h, j) → IsHeading v i j h
+  pub heading-sound : (i j : ℕ) (h : Heading) → heading v i ≡ Some (h, j) → IsHeading v i j h
   unfolding heading
   heading-sound i j h q =
       let step = then_some (name v.text i) (λ n m. heading_end v n m (header v k.Section m)) (h, j) q in
@@ -76,7 +76,7 @@ module _ (v : View) where
           at = sym same.1;
         }
 
-    next-sound : (b c : Body) (i j : ℕ) → next_sentence v t b i ≡ Ok (c, j) → Next b i c j
+    pub next-sound : (b c : Body) (i j : ℕ) → next_sentence v t b i ≡ Ok (c, j) → Next b i c j
     unfolding next_sentence
     next-sound b c i j h = next-by b c i j (sentence t 64 (spot i b.number)) refl h
 
@@ -94,8 +94,8 @@ module _ (v : View) where
     abbrev joined : (b c d : Body) (i m j : ℕ) (one : Next b i c m) (rest : Grown c m d j) → Grown b i d j
     joined b c d i m j one rest =
         let moved : Sentences IsSentence one.next.at one.next.number rest.xs (spot j d.number) =
-            subst (λ (n : ℕ). Sentences IsSentence one.next.at n rest.xs (spot j d.number)) one.number
-            (subst (λ (n : ℕ). Sentences IsSentence n c.number rest.xs (spot j d.number)) one.at rest.read) in
+        subst (λ (n : ℕ). Sentences IsSentence one.next.at n rest.xs (spot j d.number)) one.number
+        (subst (λ (n : ℕ). Sentences IsSentence n c.number rest.xs (spot j d.number)) one.at rest.read) in
         record {
           xs = one.x ∷ rest.xs;
           read = one_sentence one.read moved;
@@ -108,8 +108,8 @@ module _ (v : View) where
     each-body (suc n) b c i j h =
         if_either (begins_sentence v i) _ _ (Ok (c, j)) (Grown b i c j) h
         (λ is begun.
-          let step = so-ok (next_sentence v t b i) (λ d m. each (begins_sentence v) (next_sentence v t) n d m) (c, j) begun in
-          joined b step.part c i step.end j (next-sound b step.part i step.end step.read) (each-body n step.part c step.end j step.rest))
+        let step = so-ok (next_sentence v t b i) (λ d m. each (begins_sentence v) (next_sentence v t) n d m) (c, j) begun in
+        joined b step.part c i step.end j (next-sound b step.part i step.end step.read) (each-body n step.part c step.end j step.rest))
         (λ is over. same-grown b c i j (ok_found b c i j over))
 
     -- at least one sentence added
@@ -122,8 +122,8 @@ module _ (v : View) where
     some-body n b c i j is h =
         if_either (begins_sentence v i) _ _ (Ok (c, j)) (GrownSome b i c j) h
         (λ _ begun.
-          let step = so-ok (next_sentence v t b i) (λ d m. each (begins_sentence v) (next_sentence v t) n d m) (c, j) begun in
-          record { grown = joined b step.part c i step.end j (next-sound b step.part i step.end step.read) (each-body n step.part c step.end j step.rest); some = λ e. cc })
+        let step = so-ok (next_sentence v t b i) (λ d m. each (begins_sentence v) (next_sentence v t) n d m) (c, j) begun in
+        record { grown = joined b step.part c i step.end j (next-sound b step.part i step.end step.read) (each-body n step.part c step.end j step.rest); some = λ e. cc })
         (λ not_begun over. absurd (cc))
 
     -- a paragraph added to others
@@ -146,7 +146,7 @@ module _ (v : View) where
         } in
         subst (λ (m : ℕ). Chapter cs h begin i ds m) same.1 (subst (λ (y : Chapters). Chapter cs h begin i y end) same.0 whole)
 
-    body-sound : (cs ds : Chapters) (h : Heading) (begin i j : ℕ) → with_body v t cs h begin i ≡ Ok (ds, j) → Chapter cs h begin i ds j
+    pub body-sound : (cs ds : Chapters) (h : Heading) (begin i j : ℕ) → with_body v t cs h begin i ≡ Ok (ds, j) → Chapter cs h begin i ds j
     unfolding with_body more_sentences
     body-sound cs ds h begin i j q =
         let step = so-ok (more_sentences v t (empty cs.number) i) (λ b m. Ok (with_paragraph cs h begin b, m)) (ds, j) q in
@@ -169,7 +169,7 @@ module _ (v : View) where
       pub read : IsParagraph v IsSentence i cs.number p (spot j ds.number)
       pub is : ds.paragraphs ≡ cs.paragraphs ++ (p ∷ [])
 
-    next-paragraph-sound : (cs ds : Chapters) (i j : ℕ) → next_paragraph v t cs i ≡ Ok (ds, j) → NextParagraph cs i ds j
+    pub next-paragraph-sound : (cs ds : Chapters) (i j : ℕ) → next_paragraph v t cs i ≡ Ok (ds, j) → NextParagraph cs i ds j
     unfolding next_paragraph heading_unit
     next-paragraph-sound cs ds i j q =
         let step = so-ok (heading_unit v i) (λ h m. with_body v t cs h i m) (ds, j) q in
@@ -188,14 +188,14 @@ module _ (v : View) where
     each-paragraph (suc n) cs ds i j h =
         if_either (not (sees v.text s.End i)) _ _ (Ok (ds, j)) (Longer cs i ds j) h
         (λ is begun.
-          let step = so-ok (next_paragraph v t cs i) (λ d m. each (λ i. not (sees v.text s.End i)) (next_paragraph v t) n d m) (ds, j) begun in
-          let one = next-paragraph-sound cs step.part i step.end step.read in
-          let rest = each-paragraph n step.part ds step.end j step.rest in
-          record {
-            ps = one.p ∷ rest.ps;
-            read = one_paragraph one.read rest.read;
-            is = rest.is ∙ ap (λ (ys : List Paragraph). ys ++ rest.ps) one.is ∙ append_assoc cs.paragraphs (one.p ∷ []) rest.ps;
-          })
+        let step = so-ok (next_paragraph v t cs i) (λ d m. each (λ i. not (sees v.text s.End i)) (next_paragraph v t) n d m) (ds, j) begun in
+        let one = next-paragraph-sound cs step.part i step.end step.read in
+        let rest = each-paragraph n step.part ds step.end j step.rest in
+        record {
+          ps = one.p ∷ rest.ps;
+          read = one_paragraph one.read rest.read;
+          is = rest.is ∙ ap (λ (ys : List Paragraph). ys ++ rest.ps) one.is ∙ append_assoc cs.paragraphs (one.p ∷ []) rest.ps;
+        })
         (λ is over. same-longer cs ds i j (ok_found cs ds i j over))
 
     paragraphs-sound : (cs ds : Chapters) (i j : ℕ) → more_paragraphs v t cs i ≡ Ok (ds, j) → Longer cs i ds j
@@ -214,32 +214,34 @@ module _ (v : View) where
     unnamed-sound n long cs ds i m j is q rest =
         let step = so-ok (more_sentences v t (empty 0) i) (λ b l. Ok (with_paragraph nothing nameless i b, l)) (cs, m) q in
         let counted : each (begins_sentence v) (next_sentence v t) (suc n) (empty 0) i ≡ Ok (step.part, step.end) =
-            ap (λ l. each (begins_sentence v) (next_sentence v t) l (empty 0) i) (sym long) ∙ step.read in
+        ap (λ l. each (begins_sentence v) (next_sentence v t) l (empty 0) i) (sym long) ∙ step.read in
         let some = some-body n (empty 0) step.part i step.end is counted in
         let same = ok_found (with_paragraph nothing nameless i step.part) cs step.end m step.rest in
         let begun : Longer (with_paragraph nothing nameless i step.part) step.end ds j =
-            subst (λ (l : ℕ). Longer (with_paragraph nothing nameless i step.part) l ds j) (sym same.1) (subst (λ (y : Chapters). Longer y m ds j) (sym same.0) rest) in
+        subst (λ (l : ℕ). Longer (with_paragraph nothing nameless i step.part) l ds j) (sym same.1) (subst (λ (y : Chapters). Longer y m ds j) (sym same.0) rest) in
         let list : ds.paragraphs ≡ (record { name = []; section = false; sentences = some.grown.xs; at = i } ∷ begun.ps) =
-            begun.is ∙ ap (λ (ys : List Sentence). record { name = []; section = false; sentences = ys; at = i } ∷ begun.ps) some.grown.is in
+        begun.is ∙ ap (λ (ys : List Sentence). record { name = []; section = false; sentences = ys; at = i } ∷ begun.ps) some.grown.is in
         subst (λ (ps : List Paragraph). IsChapters v IsSentence i ps j) (sym list) (without_name some.grown.read some.some begun.read)
 
-    chapters-sound : (n : ℕ) → length v.terms ≡ suc n → (ds : Chapters) (i j : ℕ) → chapters v t i ≡ Ok (ds, j)
+    pub chapters-sound : (n : ℕ) → length v.terms ≡ suc n → (ds : Chapters) (i j : ℕ) → chapters v t i ≡ Ok (ds, j)
         → (symbol v.text i ≢ s.End) × IsChapters v IsSentence i ds.paragraphs j
     unfolding chapters unnamed
     chapters-sound n long ds i j q =
         if_either (sees v.text s.End i) _ _ (Ok (ds, j)) ((symbol v.text i ≢ s.End) × IsChapters v IsSentence i ds.paragraphs j) q
         (λ _ e. absurd (cc))
         (λ more read.
-          let step = so-ok (unnamed v t nothing i) (more_paragraphs v t) (ds, j) read in
-          let rest = paragraphs-sound step.part ds step.end j step.rest in
-          let some : symbol v.text i ≢ s.End = λ e. (let seen = sees-is v.text s.End i e in absurd (cc)) in
-          (some, if_either (begins_sentence v i) _ _ (Ok (step.part, step.end)) (IsChapters v IsSentence i ds.paragraphs j) step.read
-            (λ is body. unnamed-sound n long step.part ds i step.end j is body rest)
-            (λ _ same.
+        let step = so-ok (unnamed v t nothing i) (more_paragraphs v t) (ds, j) read in
+        let rest = paragraphs-sound step.part ds step.end j step.rest in
+        let some : symbol v.text i ≢ s.End = λ e. (let seen = sees-is v.text s.End i e in absurd (cc)) in (
+          some,
+          if_either (begins_sentence v i) _ _ (Ok (step.part, step.end)) (IsChapters v IsSentence i ds.paragraphs j) step.read
+              (λ is body. unnamed-sound n long step.part ds i step.end j is body rest)
+              (λ _ same.
               let at = ok_found nothing step.part i step.end same in
               let begun : Longer nothing i ds j =
-                  subst (λ (m : ℕ). Longer nothing m ds j) (sym at.1) (subst (λ (y : Chapters). Longer y step.end ds j) (sym at.0) rest) in
-              subst (λ (ps : List Paragraph). IsChapters v IsSentence i ps j) (sym begun.is) (headed begun.read))))
+              subst (λ (m : ℕ). Longer nothing m ds j) (sym at.1) (subst (λ (y : Chapters). Longer y step.end ds j) (sym at.0) rest) in
+              subst (λ (ps : List Paragraph). IsChapters v IsSentence i ps j) (sym begun.is) (headed begun.read)),
+        ))
 
     pub procedure-sound : (n : ℕ) → length v.terms ≡ suc n → (ps : List Paragraph) (i : ℕ) → procedure v t i ≡ Ok ps → Procedure v IsSentence i ps
     unfolding procedure closed

@@ -40,7 +40,7 @@ module _ (v : View) where
   required-ok None i x h = absurd (cc)
   required-ok (Some y) i x h = ap (λ z. Some z) (ok_same y x h)
 
-  header-read : (term : Term) (i j : ℕ) → required v (header v term i) i ≡ Ok j → Header v term i j
+  pub header-read : (term : Term) (i j : ℕ) → required v (header v term i) i ≡ Ok j → Header v term i j
   unfolding required
   header-read term i j h = header-sound v term i j (required-ok (header v term i) i j h)
 
@@ -63,7 +63,7 @@ module _ (v : View) where
         name = name-read second.end j id second.rest;
       }
 
-  computer-sound : (term : Term) (i j : ℕ) → computer v term i ≡ Ok j → Computer v term i j
+  pub computer-sound : (term : Term) (i j : ℕ) → computer v term i ≡ Ok j → Computer v term i j
   unfolding computer
   computer-sound term i j h =
       elim (header v term i) as (λ (r : Option ℕ). header v term i ≡ r → if_there r (Ok i) (λ m. so (name_unit v m) (λ n l. Ok l)) ≡ Ok j → Computer v term i j) [
@@ -79,11 +79,11 @@ module _ (v : View) where
             subst (λ (l : ℕ). Computer v term i l) (ok_same step.end j step.rest) whole
       ] refl h
 
-  configuration-sound : (i j : ℕ) → configuration v i ≡ Ok j → Configuration v i j
+  pub configuration-sound : (i j : ℕ) → configuration v i ≡ Ok j → Configuration v i j
   unfolding configuration
   configuration-sound i j h =
       elim (headers v k.Configuration k.Section i) as (λ (r : Option ℕ). headers v k.Configuration k.Section i ≡ r
-        → if_there r (Ok i) (λ m. so_at (computer v k.SourceComputer m) (computer v k.ObjectComputer)) ≡ Ok j → Configuration v i j) [
+      → if_there r (Ok i) (λ m. so_at (computer v k.SourceComputer m) (computer v k.ObjectComputer)) ≡ Ok j → Configuration v i j) [
         | None ↦ λ e h. subst (λ (l : ℕ). Configuration v i l) (ok_same i j h) absent
         | Some m ↦ λ e h.
             let step = so_at-ok (computer v k.SourceComputer m) (computer v k.ObjectComputer) j h in
@@ -94,7 +94,7 @@ module _ (v : View) where
             })
       ] refl h
 
-  next-select-sound : (ss : List Select) (i j : ℕ) (b : List Select) → next_select v ss i ≡ Ok (b, j) → Added (IsSelect v) with_last ss i j b
+  pub next-select-sound : (ss : List Select) (i j : ℕ) (b : List Select) → next_select v ss i ≡ Ok (b, j) → Added (IsSelect v) with_last ss i j b
   unfolding next_select select_unit
   next-select-sound ss i j b h =
       let step = so-ok (select_unit v i) (λ x m. Ok (with_last ss x, m)) (b, j) h in
@@ -113,14 +113,14 @@ module _ (v : View) where
   unfolding input_output
   input-output-sound i j ss h =
       elim (headers v k.InputOutput k.Section i) as (λ (r : Option ℕ). headers v k.InputOutput k.Section i ≡ r
-        → if_there r (Ok ([], i)) (λ m. so_at (required v (header v k.FileControl m) m) (more_selects v [])) ≡ Ok (ss, j) → InputOutput v i j ss) [
+      → if_there r (Ok ([], i)) (λ m. so_at (required v (header v k.FileControl m) m) (more_selects v [])) ≡ Ok (ss, j) → InputOutput v i j ss) [
         | None ↦ λ e h.
             let same = ok_found [] ss i j h in
             subst (λ (l : ℕ). InputOutput v i l ss) same.1 (subst (λ (x : List Select). InputOutput v i i x) same.0 no_io)
         | Some m ↦ λ e h.
             let step = so_at-ok (required v (header v k.FileControl m) m) (more_selects v []) (ss, j) h in
             let head : Then (Headers v k.InputOutput k.Section) (Header v k.FileControl) i step.end =
-                record { middle = m; first = headers-sound v k.InputOutput k.Section i m e; second = header-read k.FileControl m step.end step.read } in
+            record { middle = m; first = headers-sound v k.InputOutput k.Section i m e; second = header-read k.FileControl m step.end step.read } in
             some_io head (selects-sound [] step.end j ss step.rest)
       ] refl h
 
@@ -128,14 +128,14 @@ module _ (v : View) where
   unfolding environment
   environment-sound i j ss h =
       elim (headers v k.Environment k.Division i) as (λ (r : Option ℕ). headers v k.Environment k.Division i ≡ r
-        → if_there r (Ok ([], i)) (λ m. so_at (configuration v m) (input_output v)) ≡ Ok (ss, j) → Environment v i j ss) [
+      → if_there r (Ok ([], i)) (λ m. so_at (configuration v m) (input_output v)) ≡ Ok (ss, j) → Environment v i j ss) [
         | None ↦ λ e h.
             let same = ok_found [] ss i j h in
             subst (λ (l : ℕ). Environment v i l ss) same.1 (subst (λ (x : List Select). Environment v i i x) same.0 no_environment)
         | Some m ↦ λ e h.
             let step = so_at-ok (configuration v m) (input_output v) (ss, j) h in
             let head : Then (Headers v k.Environment k.Division) (Configuration v) i step.end =
-                record { middle = m; first = headers-sound v k.Environment k.Division i m e; second = configuration-sound m step.end step.read } in
+            record { middle = m; first = headers-sound v k.Environment k.Division i m e; second = configuration-sound m step.end step.read } in
             some_environment head (input-output-sound step.end j ss step.rest)
       ] refl h
 
@@ -154,7 +154,7 @@ module _ (v : View) (picture-sound : (i j : ℕ) (d : Draft) (e : Entry) → IsD
             subst (λ (l : ℕ). IsEntry v i l e) same.1 (subst (λ (y : Entry). IsEntry v i step.end y) same.0 whole)
       ] refl step.rest
 
-  next-entry-sound : (es : List Entry) (i j : ℕ) (b : List Entry) → next_entry v es i ≡ Ok (b, j) → Added (IsEntry v) with_last es i j b
+  pub next-entry-sound : (es : List Entry) (i j : ℕ) (b : List Entry) → next_entry v es i ≡ Ok (b, j) → Added (IsEntry v) with_last es i j b
   unfolding next_entry
   next-entry-sound es i j b h =
       let step = so-ok (entry_unit v i) (λ x m. Ok (with_last es x, m)) (b, j) h in
@@ -192,7 +192,7 @@ module _ (v : View) (picture-sound : (i j : ℕ) (d : Draft) (e : Entry) → IsD
         is = sym same.0;
       }
 
-  next-file-sound : (fs : List FileEntry) (i j : ℕ) (b : List FileEntry) → next_file v fs i ≡ Ok (b, j) → Added (FileWithRecords v) with_last fs i j b
+  pub next-file-sound : (fs : List FileEntry) (i j : ℕ) (b : List FileEntry) → next_file v fs i ≡ Ok (b, j) → Added (FileWithRecords v) with_last fs i j b
   unfolding next_file
   next-file-sound fs i j b h =
       let step = so-ok (file_with_records v i) (λ x m. Ok (with_last fs x, m)) (b, j) h in
@@ -207,11 +207,11 @@ module _ (v : View) (picture-sound : (i j : ℕ) (d : Draft) (e : Entry) → IsD
   unfolding more_files
   files-sound fs i j b h = each-sound (has v k.Fd) (next_file v) (FileWithRecords v) with_last next-file-sound (length v.terms) fs i j b h
 
-  file-section-sound : (i j : ℕ) (fs : List FileEntry) → file_section v i ≡ Ok (fs, j) → FileSection v i j fs
+  pub file-section-sound : (i j : ℕ) (fs : List FileEntry) → file_section v i ≡ Ok (fs, j) → FileSection v i j fs
   unfolding file_section
   file-section-sound i j fs h =
       elim (headers v k.File k.Section i) as (λ (r : Option ℕ). headers v k.File k.Section i ≡ r
-        → if_there r (Ok ([], i)) (more_files v []) ≡ Ok (fs, j) → FileSection v i j fs) [
+      → if_there r (Ok ([], i)) (more_files v []) ≡ Ok (fs, j) → FileSection v i j fs) [
         | None ↦ λ e h.
             let same = ok_found [] fs i j h in
             subst (λ (l : ℕ). FileSection v i l fs) same.1 (subst (λ (x : List FileEntry). FileSection v i i x) same.0 no_files)
@@ -222,7 +222,7 @@ module _ (v : View) (picture-sound : (i j : ℕ) (d : Draft) (e : Entry) → IsD
   unfolding storage_section
   storage-section-sound i j es h =
       elim (headers v k.WorkingStorage k.Section i) as (λ (r : Option ℕ). headers v k.WorkingStorage k.Section i ≡ r
-        → if_there r (Ok ([], i)) (more_entries v []) ≡ Ok (es, j) → StorageSection v i j es) [
+      → if_there r (Ok ([], i)) (more_entries v []) ≡ Ok (es, j) → StorageSection v i j es) [
         | None ↦ λ e h.
             let same = ok_found [] es i j h in
             subst (λ (l : ℕ). StorageSection v i l es) same.1 (subst (λ (x : List Entry). StorageSection v i i x) same.0 no_storage)
@@ -233,7 +233,7 @@ module _ (v : View) (picture-sound : (i j : ℕ) (d : Draft) (e : Entry) → IsD
   unfolding data_division data_sections
   data-sound i j d h =
       elim (headers v k.Data k.Division i) as (λ (r : Option ℕ). headers v k.Data k.Division i ≡ r
-        → if_there r (Ok (record { files = []; storage = [] }, i)) (data_sections v) ≡ Ok (d, j) → DataDivision v i j d) [
+      → if_there r (Ok (record { files = []; storage = [] }, i)) (data_sections v) ≡ Ok (d, j) → DataDivision v i j d) [
         | None ↦ λ e h.
             let same = ok_found (record { files = []; storage = [] }) d i j h in
             subst (λ (l : ℕ). DataDivision v i l d) same.1 (subst (λ (x : Data). DataDivision v i i x) same.0 no_data)
@@ -242,7 +242,7 @@ module _ (v : View) (picture-sound : (i j : ℕ) (d : Draft) (e : Entry) → IsD
             let second = so-ok (storage_section v first.end) (λ es q. Ok (record { files = first.part; storage = es }, q)) (d, j) first.rest in
             let same = ok_found (record { files = first.part; storage = second.part }) d second.end j second.rest in
             let whole : DataDivision v i second.end (record { files = first.part; storage = second.part }) =
-                some_data (headers-sound v k.Data k.Division i m e) (file-section-sound m first.end first.part first.read)
-                (storage-section-sound first.end second.end second.part second.read) in
+            some_data (headers-sound v k.Data k.Division i m e) (file-section-sound m first.end first.part first.read)
+            (storage-section-sound first.end second.end second.part second.read) in
             subst (λ (l : ℕ). DataDivision v i l d) same.1 (subst (λ (x : Data). DataDivision v i second.end x) same.0 whole)
       ] refl h

@@ -48,25 +48,25 @@ module _ (v : View) where
   part-sound i j x h =
       if_either (has v k.Organization i) _ _ (Some (x, j)) (SelectClause v i j x) h
       (λ is read.
-        let end = sequential-sound p.Organization x (past_is v (i + 1)) j read in
-        subst (λ (y : SelectPart). SelectClause v i j y) end.0 (organization (record {
-          middle = i + 1;
-          first = has-sound v k.Organization i is;
-          second = record { middle = past_is v (i + 1); first = past-is-sound v (i + 1); second = end.1 };
-        })))
+      let end = sequential-sound p.Organization x (past_is v (i + 1)) j read in
+      subst (λ (y : SelectPart). SelectClause v i j y) end.0 (organization (record {
+        middle = i + 1;
+        first = has-sound v k.Organization i is;
+        second = record { middle = past_is v (i + 1); first = past-is-sound v (i + 1); second = end.1 };
+      })))
       (λ _ rest. if_either (has v k.Access i) _ _ (Some (x, j)) (SelectClause v i j x) rest
-        (λ is read.
-          let end = sequential-sound p.Access x (past_is v (past v k.Mode (i + 1))) j read in
-          subst (λ (y : SelectPart). SelectClause v i j y) end.0 (access (record {
-            middle = i + 1;
-            first = has-sound v k.Access i is;
-            second = record {
-              middle = past_is v (past v k.Mode (i + 1));
-              first = record { middle = past v k.Mode (i + 1); first = past-sound v k.Mode (i + 1); second = past-is-sound v (past v k.Mode (i + 1)) };
-              second = end.1;
-            };
-          })))
-        (λ _ read. status-sound i (past v k.File i) j x (past-sound v k.File i) read))
+      (λ is read.
+      let end = sequential-sound p.Access x (past_is v (past v k.Mode (i + 1))) j read in
+      subst (λ (y : SelectPart). SelectClause v i j y) end.0 (access (record {
+        middle = i + 1;
+        first = has-sound v k.Access i is;
+        second = record {
+          middle = past_is v (past v k.Mode (i + 1));
+          first = record { middle = past v k.Mode (i + 1); first = past-sound v k.Mode (i + 1); second = past-is-sound v (past v k.Mode (i + 1)) };
+          second = end.1;
+        };
+      })))
+      (λ _ read. status-sound i (past v k.File i) j x (past-sound v k.File i) read))
 
   next-sound : (ps : SelectParts) (i j : ℕ) (x : SelectPart) → next_select_part v ps i ≡ Some (x, j) → SelectClause v i j x × (has_part ps x ≡ false)
   unfolding next_select_part
@@ -74,9 +74,10 @@ module _ (v : View) where
       let step = then_some (select_part v i) (unless_there v ps) (x, j) h in
       let free = if_not (has_part ps step.part) (Some (step.part, step.end)) (x, j) step.rest in
       let same = found step.part x step.end j free.1 in
-      let read = part-sound i step.end step.part step.read in
-      (subst (λ (l : ℕ). SelectClause v i l x) same.1 (subst (λ (y : SelectPart). SelectClause v i step.end y) same.0 read),
-        subst (λ (y : SelectPart). has_part ps y ≡ false) same.0 free.0)
+      let read = part-sound i step.end step.part step.read in (
+        subst (λ (l : ℕ). SelectClause v i l x) same.1 (subst (λ (y : SelectPart). SelectClause v i step.end y) same.0 read),
+        subst (λ (y : SelectPart). has_part ps y ≡ false) same.0 free.0,
+      )
 
   parts-sound : (ps : SelectParts) (i : ℕ)
       → Clauses has_part with_part (SelectClause v) ps i (more_select_parts v ps i).1 (more_select_parts v ps i).0
@@ -88,8 +89,8 @@ module _ (v : View) where
   external-sound i j x h =
       if_either (sees v.text s.Literal i) _ _ (Some (x, j)) (External v i j x) h
       (λ is read.
-        let same = found (spelling v.text i) x (i + 1) j read in
-        subst (λ (y : List ℕ). External v i j y) same.0 (of_literal (subst (λ (m : ℕ). S v s.Literal i m) same.1 (sees-sound v s.Literal i is))))
+      let same = found (spelling v.text i) x (i + 1) j read in
+      subst (λ (y : List ℕ). External v i j y) same.0 (of_literal (subst (λ (m : ℕ). S v s.Literal i m) same.1 (sees-sound v s.Literal i is))))
       (λ _ read. of_name (name-sound v i j x read))
 
   pub record Assigned (i j : ℕ) (x : List ℕ) : Type 0 where

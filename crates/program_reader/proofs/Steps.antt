@@ -105,9 +105,9 @@ module _ {A B : Type 0} (begins : ℕ → Bool) (next : A → ℕ → Result (A 
   each-sound (suc n) a i j b h =
       if_either (begins i) (so (next a i) (λ c m. each begins next n c m)) (Ok (a, i)) (Ok (b, j)) (Many Item add a i j b) h
       (λ is begun.
-        let step = so-ok (next a i) (λ c m. each begins next n c m) (b, j) begun in
-        let added = sound a i step.end step.part step.read in
-        one_more added.item (subst (λ (c : A). Many Item add c step.end j b) added.is (each-sound n step.part step.end j b step.rest)))
+      let step = so-ok (next a i) (λ c m. each begins next n c m) (b, j) begun in
+      let added = sound a i step.end step.part step.read in
+      one_more added.item (subst (λ (c : A). Many Item add c step.end j b) added.is (each-sound n step.part step.end j b step.rest)))
       (λ is over.
-        let same = ok_found a b i j over in
-        subst (λ (m : ℕ). Many Item add a i m b) same.1 (subst (λ (c : A). Many Item add a i i c) same.0 none_left))
+      let same = ok_found a b i j over in
+      subst (λ (m : ℕ). Many Item add a i m b) same.1 (subst (λ (c : A). Many Item add a i i c) same.0 none_left))

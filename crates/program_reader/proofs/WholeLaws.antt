@@ -14,7 +14,7 @@ use Rattle.cobol_syntax.specs.declared.program.Program.{Program}
 use Rattle.cobol_syntax.specs.declared.program.Sentence.{Sentence}
 use Rattle.cond_reader.specs.Text.{spelling, text_at}
 use Rattle.proc_reader.specs.declared.spot.Spot.{Spot}
-use Rattle.proc_reader.specs.Sentences.{sentence}
+use Rattle.proc_reader.proofs.SentenceLaws.{sentence-sound}
 use Rattle.program_reader.specs.declared.data.Data.{Data}
 use Rattle.program_reader.specs.declared.entry.Draft.{Draft}
 use Rattle.program_reader.specs.declared.entry.EntryPart.{EntryPart}
@@ -90,14 +90,14 @@ module _ (v : View) where
       let read : IsReading (text_at (slice_get v.text.words d.entry.picture_at)) p = reading-at v.text.words v.readings a d.entry.picture_at p at in
       subst (λ (x : Entry). IsPictured v d x) (ok_same (record (d.entry) { picture = Some p }) e h) (with_a_picture is read)
 
-  picture-sound : AreReadings v.text.words v.readings → (i j : ℕ) (d : Draft) (e : Entry) → IsDraft v i j d → pictured v d ≡ Ok e → IsPictured v d e
+  pub picture-sound : AreReadings v.text.words v.readings → (i j : ℕ) (d : Draft) (e : Entry) → IsDraft v i j d → pictured v d ≡ Ok e → IsPictured v d e
   unfolding pictured with_picture is_picture
   picture-sound a i j d e w h =
       if_either d.has_picture _ _ (Ok e) (IsPictured v d e) h
       (λ is read. picture-by d e (slice_get v.readings d.entry.picture_at) a refl is (good-draft i j d w is) read)
       (λ is same. subst (λ (x : Entry). IsPictured v d x) (ok_same d.entry e same) (without_picture is))
 
-  nonempty : {X : Type 0} (xs : List X) (x : X) → slice_get xs 0 ≡ Some x → (n : ℕ) × (length xs ≡ suc n)
+  pub nonempty : {X : Type 0} (xs : List X) (x : X) → slice_get xs 0 ≡ Some x → (n : ℕ) × (length xs ≡ suc n)
   nonempty [] x h = absurd (cc)
   nonempty (y ∷ ys) x h = (length ys, refl)
 
@@ -118,7 +118,7 @@ module _ (v : View) where
         identification = first;
         environment = second;
         sections = third;
-        procedure = procedure-sound v (source_with v.text.words (cond_names o.division) program) (SentenceAt v.text.words program (cond_names o.division)) (λ l n x next read. read)
+        procedure = procedure-sound v (source_with v.text.words (cond_names o.division) program) (SentenceAt v.text.words program (cond_names o.division)) (λ l n x next read. sentence-sound (source_with v.text.words (cond_names o.division) program) 64 (record { at = l; number = n }) next x read)
             some.0 some.1 paragraphs i e;
         is = sym (ok_same (program_after v.text.words o paragraphs) p h);
       }
@@ -133,11 +133,11 @@ module _ (v : View) where
       let o : Opening = record { id = first.part; selects = second.part; division = third.part } in
       let same = ok_found o start.part third.end start.end third.rest in
       let rest : after_opening v o (procedure v (source_with v.text.words (cond_names o.division) program) third.end) ≡ Ok p =
-          subst (λ (j : ℕ). after_opening v o (procedure v (source_with v.text.words (cond_names o.division) program) j) ≡ Ok p) (sym same.1)
-          (subst (λ (q : Opening). after_opening v q (procedure v (source_with v.text.words (cond_names q.division) program) start.end) ≡ Ok p) (sym same.0) start.rest) in
+      subst (λ (j : ℕ). after_opening v o (procedure v (source_with v.text.words (cond_names o.division) program) j) ≡ Ok p) (sym same.1)
+      (subst (λ (q : Opening). after_opening v q (procedure v (source_with v.text.words (cond_names q.division) program) start.end) ≡ Ok p) (sym same.0) start.rest) in
       finished o third.end program p first.end second.end (procedure v (source_with v.text.words (cond_names o.division) program) third.end)
-          (identification-sound v 0 first.end first.part first.read) (environment-sound v first.end second.end second.part second.read)
-          (data-sound v (picture-sound a) second.end third.end third.part third.read) refl rest
+      (identification-sound v 0 first.end first.part first.read) (environment-sound v first.end second.end second.part second.read)
+      (data-sound v (picture-sound a) second.end third.end third.part third.read) refl rest
 
 pub read-sound : (words : List Word) (program : ℕ) (file : FileId) (p : Program) → IsAnswer words program file (Ok p) → IsRead words program file p
 read-sound words program file p a = record {

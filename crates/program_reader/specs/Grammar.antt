@@ -16,7 +16,6 @@ use Rattle.program_reader.specs.declared.term.Term.{Term}
 use Rattle.program_reader.specs.declared.term.Term.TheVariants as k
 use Rattle.program_reader.specs.Views.{View}
 
-
 -- one and then the other
 pub record Then (P Q : ℕ → ℕ → Type 0) (i j : ℕ) : Type 0 where
   pub middle : ℕ

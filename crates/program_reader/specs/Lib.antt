@@ -9,6 +9,7 @@ pub mod Procedures
 pub mod ProgramGrammar
 pub mod Programs
 pub mod Readings
+pub mod RefusalGrammar
 pub mod Selects
 pub mod Terms
 pub mod UnitFaults

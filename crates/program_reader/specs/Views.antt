@@ -24,10 +24,6 @@ abbrev pub is_at : Term → Option Term → Bool
 is_at term (Some other) = same_term other term
 is_at term None = false
 
-abbrev pub term_at : Option Term → Term
-term_at (Some term) = term
-term_at None = k.Unlisted
-
 abbrev pub counted : ℕ → Option ℕ → Option (ℕ × ℕ)
 counted i None = None
 counted i (Some value) = Some (value, i + 1)
@@ -40,9 +36,6 @@ closed_by a (Some j) = Some (a, j)
 module _ (v : View) where
   unfoldable pub has : Term → ℕ → Bool
   has term i = is_at term (slice_get v.terms i)
-
-  unfoldable pub term : ℕ → Term
-  term i = term_at (slice_get v.terms i)
 
   -- after a word that may be left out
   unfoldable pub past : Term → ℕ → ℕ

@@ -32,7 +32,13 @@ impl<'a> Units<'a> {
                 if self.has(Term::Through, next) {
                     match self.parts.constant(next + 1)? {
                         None => Ok(None),
-                        Some((high, end)) => Ok(Some((Range { low, high: Some(high) }, end))),
+                        Some((high, end)) => Ok(Some((
+                            Range {
+                                low,
+                                high: Some(high),
+                            },
+                            end,
+                        ))),
                     }
                 } else {
                     Ok(Some((Range { low, high: None }, next)))
@@ -43,7 +49,11 @@ impl<'a> Units<'a> {
 
     /// The values read so far, and those from here on.
     #[tactic(auto, unfolding(crate::specs::CondEntries::more_ranges))]
-    fn more_ranges(&self, mut ranges: List<Range>, mut at: u32) -> Result<(List<Range>, u32), Memory>
+    fn more_ranges(
+        &self,
+        mut ranges: List<Range>,
+        mut at: u32,
+    ) -> Result<(List<Range>, u32), Memory>
         ensures { IfOk result (λ r. r ≡ spec.more_ranges (view_of self.now) ranges at) }
     {
         for _turn in 0..self.terms.len() {

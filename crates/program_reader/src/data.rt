@@ -26,7 +26,13 @@ impl Drop for Data {
 
 impl Data {
     /// The program with this data division.
-    pub fn program(self, words: List<Word>, id: Bytes, selects: List<Select>, paragraphs: List<Paragraph>) -> Program
+    pub fn program(
+        self,
+        words: List<Word>,
+        id: Bytes,
+        selects: List<Select>,
+        paragraphs: List<Paragraph>,
+    ) -> Program
         ensures { result ≡ whole.program_of words id selects self paragraphs }
     {
         let Data { files, storage } = self;

@@ -95,14 +95,28 @@ fn sign_at(is_leading: bool, is_separate: bool) -> SignPlace
     ensures { result ≡ spec.sign_at is_leading is_separate }
 {
     if is_leading {
-        if is_separate { SignPlace::LeadingSeparate } else { SignPlace::Leading }
+        if is_separate {
+            SignPlace::LeadingSeparate
+        } else {
+            SignPlace::Leading
+        }
     } else {
-        if is_separate { SignPlace::TrailingSeparate } else { SignPlace::Trailing }
+        if is_separate {
+            SignPlace::TrailingSeparate
+        } else {
+            SignPlace::Trailing
+        }
     }
 }
 
 /// An entry with no clauses.
-pub fn plain_entry(alloc: Global, level: u8, name: Option<Bytes>, redefines: Option<Bytes>, at: u32) -> Draft
+pub fn plain_entry(
+    alloc: Global,
+    level: u8,
+    name: Option<Bytes>,
+    redefines: Option<Bytes>,
+    at: u32,
+) -> Draft
     ensures { result ≡ drafts.plain_entry level name redefines at }
 {
     let entry = Entry {
@@ -194,7 +208,11 @@ impl<'a> Units<'a> {
     fn past_word_is(&self, term: Term, at: u32) -> u32
         ensures { result ≡ spec.past_word_is (view_of self.now) term at }
     {
-        if self.has(term, at) { self.past_is(at + 1) } else { at }
+        if self.has(term, at) {
+            self.past_is(at + 1)
+        } else {
+            at
+        }
     }
 
     /// SEPARATE, where it is written, after the end of a sign.
@@ -203,7 +221,10 @@ impl<'a> Units<'a> {
         ensures { result ≡ spec.sign_rest (view_of self.now) is_leading at }
     {
         if self.has(Term::Separate, at) {
-            (EntryPart::Sign(sign_at(is_leading, true)), self.past(Term::Character, at + 1))
+            (
+                EntryPart::Sign(sign_at(is_leading, true)),
+                self.past(Term::Character, at + 1),
+            )
         } else {
             (EntryPart::Sign(sign_at(is_leading, false)), at)
         }

@@ -108,7 +108,11 @@ impl<'a> Units<'a> {
         ensures { result ≡ spec.recording (view_of self.now) at }
     {
         let next = self.past_is(self.past(Term::Mode, at));
-        if self.has(Term::Fixed, next) { Some(next + 1) } else { None }
+        if self.has(Term::Fixed, next) {
+            Some(next + 1)
+        } else {
+            None
+        }
     }
 
     /// The position after the names from here on.
@@ -171,7 +175,10 @@ impl<'a> Units<'a> {
             Some(_) => match self.parts.constant(start)? {
                 None => Ok(None),
                 Some((number, next)) => {
-                    Ok(Some((FilePart::Contains(number), self.past(Term::Characters, next))))
+                    Ok(Some((
+                        FilePart::Contains(number),
+                        self.past(Term::Characters, next),
+                    )))
                 }
             },
         }
@@ -211,7 +218,11 @@ impl<'a> Units<'a> {
 
     /// The number of RECORD CONTAINS as read so far, after the clauses from here on.
     #[tactic(auto, unfolding(crate::specs::Files::more_file_parts))]
-    fn more_file_parts(&self, mut contains: Option<Operand>, mut at: u32) -> Result<(Option<Operand>, u32), Memory>
+    fn more_file_parts(
+        &self,
+        mut contains: Option<Operand>,
+        mut at: u32,
+    ) -> Result<(Option<Operand>, u32), Memory>
         ensures { IfOk result (λ r. r ≡ spec.more_file_parts (view_of self.now) contains at) }
     {
         for _turn in 0..self.terms.len() {
@@ -236,7 +247,15 @@ impl<'a> Units<'a> {
             None => Ok(None),
             Some(end) => {
                 let entries = List::new(self.parts.alloc);
-                Ok(Some((FileEntry { name, contains, entries, at: begin }, end)))
+                Ok(Some((
+                    FileEntry {
+                        name,
+                        contains,
+                        entries,
+                        at: begin,
+                    },
+                    end,
+                )))
             }
         }
     }

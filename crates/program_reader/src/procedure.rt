@@ -41,10 +41,22 @@ impl<'a> Units<'a> {
         match self.parts.name(at)? {
             None => Ok(None),
             Some((name, next)) => match self.header(Term::Section, next) {
-                Some(end) => Ok(Some((Heading { name, section: true }, end))),
+                Some(end) => Ok(Some((
+                    Heading {
+                        name,
+                        section: true,
+                    },
+                    end,
+                ))),
                 None => match self.ended(next) {
                     None => Ok(None),
-                    Some(end) => Ok(Some((Heading { name, section: false }, end))),
+                    Some(end) => Ok(Some((
+                        Heading {
+                            name,
+                            section: false,
+                        },
+                        end,
+                    ))),
                 },
             },
         }
@@ -114,7 +126,14 @@ impl<'a> Units<'a> {
 
     /// The paragraph or section with its own sentences, of which the statements are numbered from `number` on.
     #[tactic(auto, unfolding(crate::specs::Procedures::with_body))]
-    fn with_body(&self, sentences: &Sentences, chapters: Chapters, heading: Heading, begin: u32, at: u32) -> Outcome<Chapters>
+    fn with_body(
+        &self,
+        sentences: &Sentences,
+        chapters: Chapters,
+        heading: Heading,
+        begin: u32,
+        at: u32,
+    ) -> Outcome<Chapters>
         ensures { IfOk result (λ r. r ≡ spec.with_body (view_of self.now) (source_of sentences.now) chapters heading begin at) }
     {
         let Chapters {
@@ -139,14 +158,25 @@ impl<'a> Units<'a> {
                     sentences: list,
                     at: begin,
                 })?;
-                Ok(Ok((Chapters { paragraphs, number: after }, next)))
+                Ok(Ok((
+                    Chapters {
+                        paragraphs,
+                        number: after,
+                    },
+                    next,
+                )))
             }
         }
     }
 
     /// One more paragraph or section, with its header.
     #[tactic(auto, unfolding(crate::specs::Procedures::next_paragraph))]
-    fn next_paragraph(&self, sentences: &Sentences, chapters: Chapters, at: u32) -> Outcome<Chapters>
+    fn next_paragraph(
+        &self,
+        sentences: &Sentences,
+        chapters: Chapters,
+        at: u32,
+    ) -> Outcome<Chapters>
         ensures { IfOk result (λ r. r ≡ spec.next_paragraph (view_of self.now) (source_of sentences.now) chapters at) }
     {
         match self.heading_unit(at)? {
@@ -157,7 +187,12 @@ impl<'a> Units<'a> {
 
     /// The paragraphs and sections read so far, and those from here to the end of the words.
     #[tactic(auto, unfolding(crate::specs::Procedures::more_paragraphs))]
-    fn more_paragraphs(&self, sentences: &Sentences, mut chapters: Chapters, mut at: u32) -> Outcome<Chapters>
+    fn more_paragraphs(
+        &self,
+        sentences: &Sentences,
+        mut chapters: Chapters,
+        mut at: u32,
+    ) -> Outcome<Chapters>
         ensures { IfOk result (λ r. r ≡ spec.more_paragraphs (view_of self.now) (source_of sentences.now) chapters at) }
     {
         for _turn in 0..self.terms.len() {
@@ -211,7 +246,11 @@ impl<'a> Units<'a> {
 
     /// The paragraphs, where the words end after them.
     #[tactic(auto, unfolding(crate::specs::Procedures::closed))]
-    fn closed(&self, chapters: Chapters, end: u32) -> Result<Result<List<Paragraph>, Refused>, Memory>
+    fn closed(
+        &self,
+        chapters: Chapters,
+        end: u32,
+    ) -> Result<Result<List<Paragraph>, Refused>, Memory>
         ensures { IfOk result (λ r. r ≡ spec.closed (view_of self.now) chapters end) }
     {
         let Chapters {
@@ -227,7 +266,11 @@ impl<'a> Units<'a> {
 
     /// The procedure division, with which a program ends.
     #[tactic(auto, unfolding(crate::specs::Procedures::procedure))]
-    pub fn procedure(&self, sentences: &Sentences, at: u32) -> Result<Result<List<Paragraph>, Refused>, Memory>
+    pub fn procedure(
+        &self,
+        sentences: &Sentences,
+        at: u32,
+    ) -> Result<Result<List<Paragraph>, Refused>, Memory>
         ensures { IfOk result (λ r. r ≡ spec.procedure (view_of self.now) (source_of sentences.now) at) }
     {
         match self.required(self.headers(Term::Procedure, Term::Division, at), at)? {

@@ -1,5 +1,5 @@
 ghost use Rattle.std.specs.Prelude.{◌≡◌, ◌<◌, ◌^◌, ◌++◌, length, IfOk, IfErr};
-ghost use Rattle.program_reader.specs.IsReads.{IsRead};
+ghost use Rattle.program_reader.specs.IsReads.{IsRead, HasReadFault};
 ghost use Rattle.program_reader.specs.Whole as spec;
 ghost use Rattle.program_reader.specs.View.{view_of};
 
@@ -88,7 +88,11 @@ fn add_names(alloc: Global, names: &mut List<Bytes>, mut entries: &[Entry]) -> R
 }
 
 /// Adds the condition-names of the entries under FDs.
-fn add_file_names(alloc: Global, names: &mut List<Bytes>, mut files: &[FileEntry]) -> Result<(), Memory>
+fn add_file_names(
+    alloc: Global,
+    names: &mut List<Bytes>,
+    mut files: &[FileEntry],
+) -> Result<(), Memory>
     ensures { IfOk result (λ _. names.new ≡ names.old ++ spec.file_names files.entry.now) }
 {
     while let [file, rest @ ..] = files {
@@ -106,7 +110,14 @@ impl<'a> Units<'a> {
     {
         match self.data_division(at)? {
             Err(refused) => Ok(Err(refused)),
-            Ok((division, next)) => Ok(Ok((Opening { id, selects, division }, next))),
+            Ok((division, next)) => Ok(Ok((
+                Opening {
+                    id,
+                    selects,
+                    division,
+                },
+                next,
+            ))),
         }
     }
 
@@ -134,7 +145,12 @@ impl<'a> Units<'a> {
 
     /// The procedure division in a program with these condition-names.
     #[tactic(auto, unfolding(crate::specs::Whole::procedure_with))]
-    fn procedure_with(&self, names: &CondNames, program: u32, at: u32) -> Result<Result<List<Paragraph>, Refused>, Memory>
+    fn procedure_with(
+        &self,
+        names: &CondNames,
+        program: u32,
+        at: u32,
+    ) -> Result<Result<List<Paragraph>, Refused>, Memory>
         requires { length self.now.parts.words.now < 2 ^ 32 }
         ensures { IfOk result (λ r. r ≡ spec.procedure_with (view_of self.now) names.now.list program at) }
     {
@@ -181,7 +197,12 @@ fn copy_words(alloc: Global, copies: &mut List<Word>, words: &[Word]) -> Result<
 }
 
 /// The program of words, or why they are none.
-fn read_words(alloc: Global, words: &[Word], program: u32, file: FileId) -> Result<Result<Program, Refused>, Memory>
+fn read_words(
+    alloc: Global,
+    words: &[Word],
+    program: u32,
+    file: FileId,
+) -> Result<Result<Program, Refused>, Memory>
     requires { length words.now < 2 ^ 32 }
     ensures { IfOk result (spec.IsAnswer words.now program file) }
 {
@@ -200,11 +221,24 @@ fn read_words(alloc: Global, words: &[Word], program: u32, file: FileId) -> Resu
     units.whole(program)
 }
 
-/// The program that the expanded words are, the number `program` of its portfolio; `file` is its text.
-pub fn read_program(alloc: Global, expanded: &Expanded, program: u32, file: FileId) -> Result<Program, ReadFault>
+/// The program that the expanded words of a text are: its divisions as ISO 1989:1985 has them, with the clauses that
+/// this project takes. `program` is its number in the portfolio, which the ids of its statements carry, and `file` is
+/// its text. Positions of the tree count words from 0; `picture_at` is 0 where there is no PICTURE clause.
+///
+/// The text is read unit by unit; a unit is the words up to and with a period. The first unit without a reading is
+/// refused at its first word: `NestDeep` where more than 64 of its words open a level, else `UnitShape`. Where a unit is
+/// missing, `UnitShape` stands at the last word, or at line 1, column 1 of `file` where there are no words. In an entry
+/// that has a reading the string of its PICTURE clause is refused at its own place, with the fault of `read_picture`.
+pub fn read_program(
+    alloc: Global,
+    expanded: &Expanded,
+    program: u32,
+    file: FileId,
+) -> Result<Program, ReadFault>
     ensures read { IfOk result (IsRead expanded.now.words program file) }
     ensures exact { IfOk result (λ p. spec.IsAnswer expanded.now.words program file (Ok p)) }
-    ensures refused { IfErr result (spec.IsRefusal expanded.now.words program file) }
+    ensures refused { IfErr result (HasReadFault expanded.now.words program file) }
+    ensures first { IfErr result (spec.IsRefusal expanded.now.words program file) }
 {
     let words = expanded.words.items();
     if words.len() >= 4_294_967_296 {

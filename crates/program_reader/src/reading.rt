@@ -57,9 +57,18 @@ fn picture_of(alloc: Global, word: &Word) -> Result<Reading, Memory>
 {
     match read_picture(alloc, word.text.items()) {
         Ok(picture) => Ok(Reading::Picture(picture)),
-        Err(PicFault::PictureFull) => Ok(Reading::Refused(Refused { kind: RefusedKind::PictureFull, at: word.origin })),
-        Err(PicFault::PictureShape) => Ok(Reading::Refused(Refused { kind: RefusedKind::PictureShape, at: word.origin })),
-        Err(PicFault::TooManyDigits) => Ok(Reading::Refused(Refused { kind: RefusedKind::TooManyDigits, at: word.origin })),
+        Err(PicFault::PictureFull) => Ok(Reading::Refused(Refused {
+            kind: RefusedKind::PictureFull,
+            at: word.origin,
+        })),
+        Err(PicFault::PictureShape) => Ok(Reading::Refused(Refused {
+            kind: RefusedKind::PictureShape,
+            at: word.origin,
+        })),
+        Err(PicFault::TooManyDigits) => Ok(Reading::Refused(Refused {
+            kind: RefusedKind::TooManyDigits,
+            at: word.origin,
+        })),
         Err(PicFault::Memory) => Err(Memory),
     }
 }

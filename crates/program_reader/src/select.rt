@@ -150,7 +150,11 @@ impl<'a> Units<'a> {
 
     /// The clauses read so far, and those from here on.
     #[tactic(auto, unfolding(crate::specs::Selects::more_select_parts))]
-    fn more_select_parts(&self, mut parts: SelectParts, mut at: u32) -> Result<(SelectParts, u32), Memory>
+    fn more_select_parts(
+        &self,
+        mut parts: SelectParts,
+        mut at: u32,
+    ) -> Result<(SelectParts, u32), Memory>
         ensures { IfOk result (λ r. r ≡ spec.more_select_parts (view_of self.now) parts at) }
     {
         for _turn in 0..3u32 {
@@ -208,7 +212,15 @@ impl<'a> Units<'a> {
             None => Ok(None),
             Some(end) => {
                 let status = parts.into_status();
-                Ok(Some((Select { name, external, status, at: begin }, end)))
+                Ok(Some((
+                    Select {
+                        name,
+                        external,
+                        status,
+                        at: begin,
+                    },
+                    end,
+                )))
             }
         }
     }

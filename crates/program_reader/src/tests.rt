@@ -208,7 +208,10 @@ fn show_fault(alloc: Global, fault: ReadFault, out: &mut Bytes) -> Result<(), Me
     match fault {
         ReadFault::Memory => Err(Memory),
         ReadFault::Refused(refused) => {
-            let text = format!(in alloc; "{:?} {}:{}", refused.kind, refused.at.line, refused.at.column)?;
+            let text = format!(in alloc;
+                "{:?} {}:{}",
+                refused.kind, refused.at.line, refused.at.column
+            )?;
             out.append(text.as_bytes())
         }
     }
@@ -252,15 +255,39 @@ fn read_storage(alloc: Global, text: &[u8]) -> Result<Bytes, Memory> {
 #[test]
 fn entries_have_each_clause_once_in_any_order(rt: HostRuntime) -> Result<(), Fail> {
     for (text, want) in [
-        (b"01 A PIC ~9(4) .".as_slice(), b"13: 1 A pic 94@16 Display Trailing.".as_slice()),
-        (b"001 FILLER PICTURE IS ~X .", b"13: 1 - pic X1@17 Display Trailing."),
+        (
+            b"01 A PIC ~9(4) .".as_slice(),
+            b"13: 1 A pic 94@16 Display Trailing.".as_slice(),
+        ),
+        (
+            b"001 FILLER PICTURE IS ~X .",
+            b"13: 1 - pic X1@17 Display Trailing.",
+        ),
         (b"77 COMP .", b"13: 77 - Binary Trailing."),
-        (b"49 A REDEFINES B COMP-3 PIC ~9 .", b"13: 49 A = B pic 91@19 Packed Trailing."),
-        (b"05 A OCCURS 3 TIMES USAGE IS PACKED-DECIMAL .", b"13: 5 A * 3 Packed Trailing."),
-        (b"05 A USAGE DISPLAY OCCURS 3 .", b"13: 5 A * 3 Display Trailing."),
-        (b"05 A VALUE IS ZERO SIGN IS LEADING SEPARATE CHARACTER .", b"13: 5 A Display LeadingSeparate value all 48@17."),
-        (b"05 A TRAILING SEPARATE VALUE -1.5 .", b"13: 5 A Display TrailingSeparate value -15e-1 of 2@18."),
-        (b"05 A LEADING VALUE \"XY .", b"13: 5 A Display Leading value XY\"@17."),
+        (
+            b"49 A REDEFINES B COMP-3 PIC ~9 .",
+            b"13: 49 A = B pic 91@19 Packed Trailing.",
+        ),
+        (
+            b"05 A OCCURS 3 TIMES USAGE IS PACKED-DECIMAL .",
+            b"13: 5 A * 3 Packed Trailing.",
+        ),
+        (
+            b"05 A USAGE DISPLAY OCCURS 3 .",
+            b"13: 5 A * 3 Display Trailing.",
+        ),
+        (
+            b"05 A VALUE IS ZERO SIGN IS LEADING SEPARATE CHARACTER .",
+            b"13: 5 A Display LeadingSeparate value all 48@17.",
+        ),
+        (
+            b"05 A TRAILING SEPARATE VALUE -1.5 .",
+            b"13: 5 A Display TrailingSeparate value -15e-1 of 2@18.",
+        ),
+        (
+            b"05 A LEADING VALUE \"XY .",
+            b"13: 5 A Display Leading value XY\"@17.",
+        ),
         (b"05 A PIC ~9 PIC ~9 .", b"UnitShape 7:13"),
         (b"05 A COMP DISPLAY .", b"UnitShape 7:13"),
         (b"05 A OCCURS 2 OCCURS 2 .", b"UnitShape 7:13"),
@@ -274,9 +301,12 @@ fn entries_have_each_clause_once_in_any_order(rt: HostRuntime) -> Result<(), Fai
         (b"50 A .", b"UnitShape 7:13"),
         (b"78 A .", b"UnitShape 7:13"),
         (b"1.0 A .", b"UnitShape 7:13"),
-        (b"01 A . 05 B PIC ~9Q .", b"PictureShape 7:20"),
+        (b"01 A . 05 B PIC ~9Q .", b"PictureShape 7:19"),
         (b"01 A PIC ~9(19) .", b"TooManyDigits 7:16"),
-        (b"01 A PIC ~XXXXXXXXXXXXXXXXXXXXXXXXXXXXXXX .", b"PictureFull 7:16"),
+        (
+            b"01 A PIC ~XXXXXXXXXXXXXXXXXXXXXXXXXXXXXXX .",
+            b"PictureFull 7:16",
+        ),
         (b"01 A PIC ~9Q", b"UnitShape 7:13"),
     ] {
         let got = read_storage(rt.alloc(), text)?;
@@ -292,9 +322,18 @@ fn condition_names_have_a_form_of_their_own(rt: HostRuntime) -> Result<(), Fail>
             b"88 YES VALUE \"Y .".as_slice(),
             b"13: 88 YES Display Trailing in Y\"@16.".as_slice(),
         ),
-        (b"088 N VALUES ARE 1 THRU 3 7 .", b"13: 88 N Display Trailing in 1e-0 of 1@17 to 3e-0 of 1@19 in 7e-0 of 1@20."),
-        (b"88 N VALUE IS SPACES THROUGH \"B .", b"13: 88 N Display Trailing in all 32@17 to B\"@19."),
-        (b"88 N VALUES 1 -2 .", b"13: 88 N Display Trailing in 1e-0 of 1@16 in -2e-0 of 1@17."),
+        (
+            b"088 N VALUES ARE 1 THRU 3 7 .",
+            b"13: 88 N Display Trailing in 1e-0 of 1@17 to 3e-0 of 1@19 in 7e-0 of 1@20.",
+        ),
+        (
+            b"88 N VALUE IS SPACES THROUGH \"B .",
+            b"13: 88 N Display Trailing in all 32@17 to B\"@19.",
+        ),
+        (
+            b"88 N VALUES 1 -2 .",
+            b"13: 88 N Display Trailing in 1e-0 of 1@16 in -2e-0 of 1@17.",
+        ),
         (b"88 N PIC ~9 .", b"UnitShape 7:13"),
         (b"88 N .", b"UnitShape 7:13"),
         (b"88 FILLER VALUE 1 .", b"UnitShape 7:13"),
@@ -335,15 +374,36 @@ fn read_selects(alloc: Global, text: &[u8]) -> Result<Bytes, Memory> {
 #[test]
 fn select_entries_have_each_clause_once_in_any_order(rt: HostRuntime) -> Result<(), Fail> {
     for (text, want) in [
-        (b"SELECT F ASSIGN TO EMP .".as_slice(), b"15: F is EMP.".as_slice()),
+        (
+            b"SELECT F ASSIGN TO EMP .".as_slice(),
+            b"15: F is EMP.".as_slice(),
+        ),
         (b"SELECT F ASSIGN \"emp .", b"15: F is emp."),
-        (b"SELECT F ASSIGN E FILE STATUS IS S ( 1 ) ORGANIZATION IS SEQUENTIAL ACCESS MODE IS SEQUENTIAL .", b"15: F is E status S@22-26."),
-        (b"SELECT F ASSIGN E ACCESS SEQUENTIAL STATUS S OF T ORGANIZATION SEQUENTIAL .", b"15: F is E status ST@22-25."),
-        (b"SELECT F ASSIGN E ORGANIZATION SEQUENTIAL STATUS S . SELECT G ASSIGN H ACCESS IS SEQUENTIAL .", b"15: F is E status S@22-23.24: G is H."),
+        (
+            b"SELECT F ASSIGN E FILE STATUS IS S ( 1 ) ORGANIZATION IS SEQUENTIAL ACCESS MODE IS SEQUENTIAL .",
+            b"15: F is E status S@22-26.",
+        ),
+        (
+            b"SELECT F ASSIGN E ACCESS SEQUENTIAL STATUS S OF T ORGANIZATION SEQUENTIAL .",
+            b"15: F is E status ST@22-25.",
+        ),
+        (
+            b"SELECT F ASSIGN E ORGANIZATION SEQUENTIAL STATUS S . SELECT G ASSIGN H ACCESS IS SEQUENTIAL .",
+            b"15: F is E status S@22-23.24: G is H.",
+        ),
         (b"SELECT F ASSIGN E STATUS S STATUS S .", b"UnitShape 7:15"),
-        (b"SELECT F ASSIGN E ACCESS SEQUENTIAL ACCESS SEQUENTIAL .", b"UnitShape 7:15"),
-        (b"SELECT F ASSIGN E ORGANIZATION SEQUENTIAL ORGANIZATION SEQUENTIAL .", b"UnitShape 7:15"),
-        (b"SELECT F ASSIGN E ORGANIZATION INDEXED .", b"UnitShape 7:15"),
+        (
+            b"SELECT F ASSIGN E ACCESS SEQUENTIAL ACCESS SEQUENTIAL .",
+            b"UnitShape 7:15",
+        ),
+        (
+            b"SELECT F ASSIGN E ORGANIZATION SEQUENTIAL ORGANIZATION SEQUENTIAL .",
+            b"UnitShape 7:15",
+        ),
+        (
+            b"SELECT F ASSIGN E ORGANIZATION INDEXED .",
+            b"UnitShape 7:15",
+        ),
         (b"SELECT F ASSIGN E FILE .", b"UnitShape 7:15"),
         (b"SELECT F ASSIGN 5 .", b"UnitShape 7:15"),
         (b"SELECT F TO E .", b"UnitShape 7:15"),
@@ -381,11 +441,26 @@ fn read_files(alloc: Global, text: &[u8]) -> Result<Bytes, Memory> {
 #[test]
 fn fd_entries_have_record_contains_once_and_records(rt: HostRuntime) -> Result<(), Fail> {
     for (text, want) in [
-        (b"FD F . 01 R . FD G . 01 S . 05 T .".as_slice(), b"13: file F.16: 1 R Display Trailing.19: file G.22: 1 S Display Trailing.25: 5 T Display Trailing.".as_slice()),
-        (b"FD F RECORD CONTAINS 020 CHARACTERS . 01 R .", b"13: file F contains 20e-0 of 3@17.20: 1 R Display Trailing."),
-        (b"FD F RECORDING MODE IS F RECORD 4294967295 . 01 R .", b"13: file F contains 4294967295e-0 of 10@20.22: 1 R Display Trailing."),
-        (b"FD F LABEL RECORDS ARE STANDARD BLOCK CONTAINS 5 RECORDS DATA RECORD IS R S RECORDING F LABEL RECORD OMITTED . 01 R .", b"13: file F.34: 1 R Display Trailing."),
-        (b"FD F BLOCK 5 BLOCK 6 CHARACTERS DATA RECORDS R DATA RECORD S RECORD 9 . 01 R .", b"13: file F contains 9e-0 of 1@27.29: 1 R Display Trailing."),
+        (
+            b"FD F . 01 R . FD G . 01 S . 05 T .".as_slice(),
+            b"13: file F.16: 1 R Display Trailing.19: file G.22: 1 S Display Trailing.25: 5 T Display Trailing.".as_slice(),
+        ),
+        (
+            b"FD F RECORD CONTAINS 020 CHARACTERS . 01 R .",
+            b"13: file F contains 20e-0 of 3@17.20: 1 R Display Trailing.",
+        ),
+        (
+            b"FD F RECORDING MODE IS F RECORD 4294967295 . 01 R .",
+            b"13: file F contains 4294967295e-0 of 10@20.22: 1 R Display Trailing.",
+        ),
+        (
+            b"FD F LABEL RECORDS ARE STANDARD BLOCK CONTAINS 5 RECORDS DATA RECORD IS R S RECORDING F LABEL RECORD OMITTED . 01 R .",
+            b"13: file F.34: 1 R Display Trailing.",
+        ),
+        (
+            b"FD F BLOCK 5 BLOCK 6 CHARACTERS DATA RECORDS R DATA RECORD S RECORD 9 . 01 R .",
+            b"13: file F contains 9e-0 of 1@27.29: 1 R Display Trailing.",
+        ),
         (b"FD F RECORD 4 RECORD 4 . 01 R .", b"UnitShape 7:13"),
         (b"FD F RECORD 4294967296 . 01 R .", b"UnitShape 7:13"),
         (b"FD F RECORD +4 . 01 R .", b"UnitShape 7:13"),
@@ -397,7 +472,10 @@ fn fd_entries_have_record_contains_once_and_records(rt: HostRuntime) -> Result<(
         (b"FD . 01 R .", b"UnitShape 7:13"),
         (b"FD F . FD G . 01 R .", b"UnitShape 7:16"),
         (b"FD F .", b"UnitShape 7:16"),
-        (b"FD F . 01 R PIC ~9Q . 05 A COMP COMP .", b"PictureShape 7:19"),
+        (
+            b"FD F . 01 R PIC ~9Q . 05 A COMP COMP .",
+            b"PictureShape 7:19",
+        ),
     ] {
         let got = read_files(rt.alloc(), text)?;
         assert_eq!(rt; got.items(), want);
@@ -408,34 +486,79 @@ fn fd_entries_have_record_contains_once_and_records(rt: HostRuntime) -> Result<(
 #[test]
 fn divisions_stand_in_their_order(rt: HostRuntime) -> Result<(), Fail> {
     for (text, want) in [
-        (b"ID DIVISION . PROGRAM-ID . P . PROCEDURE DIVISION . A .".as_slice(), b"P.10: A 0.".as_slice()),
-        (b"IDENTIFICATION DIVISION . PROGRAM-ID . F . ENVIRONMENT DIVISION . DATA DIVISION . PROCEDURE DIVISION . ID SECTION . F .", b"F.16: ID section 0.19: F 0."),
-        (b"ID DIVISION . PROGRAM-ID . P . ENVIRONMENT DIVISION . CONFIGURATION SECTION . SOURCE-COMPUTER . PC . OBJECT-COMPUTER . PC . INPUT-OUTPUT SECTION . FILE-CONTROL . PROCEDURE DIVISION . A .", b"P.29: A 0."),
-        (b"ID DIVISION . PROGRAM-ID . P . ENVIRONMENT DIVISION . CONFIGURATION SECTION . OBJECT-COMPUTER . PC . DATA DIVISION . FILE SECTION . WORKING-STORAGE SECTION . PROCEDURE DIVISION . A .", b"P.29: A 0."),
+        (
+            b"ID DIVISION . PROGRAM-ID . P . PROCEDURE DIVISION . A .".as_slice(),
+            b"P.10: A 0.".as_slice(),
+        ),
+        (
+            b"IDENTIFICATION DIVISION . PROGRAM-ID . F . ENVIRONMENT DIVISION . DATA DIVISION . PROCEDURE DIVISION . ID SECTION . F .",
+            b"F.16: ID section 0.19: F 0.",
+        ),
+        (
+            b"ID DIVISION . PROGRAM-ID . P . ENVIRONMENT DIVISION . CONFIGURATION SECTION . SOURCE-COMPUTER . PC . OBJECT-COMPUTER . PC . INPUT-OUTPUT SECTION . FILE-CONTROL . PROCEDURE DIVISION . A .",
+            b"P.29: A 0.",
+        ),
+        (
+            b"ID DIVISION . PROGRAM-ID . P . ENVIRONMENT DIVISION . CONFIGURATION SECTION . OBJECT-COMPUTER . PC . DATA DIVISION . FILE SECTION . WORKING-STORAGE SECTION . PROCEDURE DIVISION . A .",
+            b"P.29: A 0.",
+        ),
         (b"PROGRAM-ID . P .", b"UnitShape 7:0"),
         (b"ID DIVISION PROGRAM-ID . P .", b"UnitShape 7:0"),
         (b"ID DIVISION . P .", b"UnitShape 7:3"),
         (b"ID DIVISION . PROGRAM-ID P .", b"UnitShape 7:3"),
         (b"ID DIVISION . PROGRAM-ID . DATA .", b"UnitShape 7:5"),
         (b"ID DIVISION . PROGRAM-ID . P . A .", b"UnitShape 7:7"),
-        (b"ID DIVISION . PROGRAM-ID . P . DATA DIVISION . ENVIRONMENT DIVISION . PROCEDURE DIVISION . A .", b"UnitShape 7:10"),
-        (b"ID DIVISION . PROGRAM-ID . P . ENVIRONMENT DIVISION . INPUT-OUTPUT SECTION . PROCEDURE DIVISION . A .", b"UnitShape 7:13"),
-        (b"ID DIVISION . PROGRAM-ID . P . ENVIRONMENT DIVISION . SOURCE-COMPUTER . PC . PROCEDURE DIVISION . A .", b"UnitShape 7:10"),
-        (b"ID DIVISION . PROGRAM-ID . P . ENVIRONMENT DIVISION . CONFIGURATION SECTION . SOURCE-COMPUTER . PROCEDURE DIVISION . A .", b"UnitShape 7:15"),
-        (b"ID DIVISION . PROGRAM-ID . P . DATA DIVISION . WORKING-STORAGE SECTION . FILE SECTION . PROCEDURE DIVISION . A .", b"UnitShape 7:13"),
-        (b"ID DIVISION . PROGRAM-ID . P . WORKING-STORAGE SECTION . PROCEDURE DIVISION . A .", b"UnitShape 7:7"),
-        (b"ID DIVISION . PROGRAM-ID . P . PROCEDURE DIVISION .", b"UnitShape 7:9"),
+        (
+            b"ID DIVISION . PROGRAM-ID . P . DATA DIVISION . ENVIRONMENT DIVISION . PROCEDURE DIVISION . A .",
+            b"UnitShape 7:10",
+        ),
+        (
+            b"ID DIVISION . PROGRAM-ID . P . ENVIRONMENT DIVISION . INPUT-OUTPUT SECTION . PROCEDURE DIVISION . A .",
+            b"UnitShape 7:13",
+        ),
+        (
+            b"ID DIVISION . PROGRAM-ID . P . ENVIRONMENT DIVISION . SOURCE-COMPUTER . PC . PROCEDURE DIVISION . A .",
+            b"UnitShape 7:10",
+        ),
+        (
+            b"ID DIVISION . PROGRAM-ID . P . ENVIRONMENT DIVISION . CONFIGURATION SECTION . SOURCE-COMPUTER . PROCEDURE DIVISION . A .",
+            b"UnitShape 7:15",
+        ),
+        (
+            b"ID DIVISION . PROGRAM-ID . P . DATA DIVISION . WORKING-STORAGE SECTION . FILE SECTION . PROCEDURE DIVISION . A .",
+            b"UnitShape 7:13",
+        ),
+        (
+            b"ID DIVISION . PROGRAM-ID . P . WORKING-STORAGE SECTION . PROCEDURE DIVISION . A .",
+            b"UnitShape 7:7",
+        ),
+        (
+            b"ID DIVISION . PROGRAM-ID . P . PROCEDURE DIVISION .",
+            b"UnitShape 7:9",
+        ),
         (b"ID DIVISION . PROGRAM-ID . P .", b"UnitShape 7:6"),
-        (b"ID DIVISION . PROGRAM-ID . P . PROCEDURE DIVISION . A", b"UnitShape 7:10"),
-        (b"ID DIVISION . PROGRAM-ID . P . PROCEDURE DIVISION . A . B C", b"UnitShape 7:13"),
-        (b"ID DIVISION . PROGRAM-ID . P . PROCEDURE DIVISION . A SECTION B .", b"UnitShape 7:10"),
-        (b"ID DIVISION . PROGRAM-ID . P . PROCEDURE DIVISION . A B .", b"UnitShape 7:10"),
+        (
+            b"ID DIVISION . PROGRAM-ID . P . PROCEDURE DIVISION . A",
+            b"UnitShape 7:10",
+        ),
+        (
+            b"ID DIVISION . PROGRAM-ID . P . PROCEDURE DIVISION . A . B C",
+            b"UnitShape 7:13",
+        ),
+        (
+            b"ID DIVISION . PROGRAM-ID . P . PROCEDURE DIVISION . A SECTION B .",
+            b"UnitShape 7:10",
+        ),
+        (
+            b"ID DIVISION . PROGRAM-ID . P . PROCEDURE DIVISION . A B .",
+            b"UnitShape 7:10",
+        ),
     ] {
         let got = read_text(rt.alloc(), text)?;
         assert_eq!(rt; got.items(), want);
     }
     let empty = read(rt.alloc(), List::new(rt.alloc()))?;
-    assert_eq!(rt; empty.items(), b"UnitShape 1:1");
+    assert_eq!(rt; empty.items(), b"UnitShape 1:1".as_slice());
     Ok(())
 }
 
@@ -462,20 +585,26 @@ fn read_cut(alloc: Global, count: usize) -> Result<Bytes, Memory> {
 }
 
 #[test]
-fn a_program_cut_after_each_word_is_read_or_refused_at_its_last_word(rt: HostRuntime) -> Result<(), Fail> {
+fn a_program_cut_after_each_word_is_read_or_refused_at_its_last_word(
+    rt: HostRuntime,
+) -> Result<(), Fail> {
     for count in 0..42usize {
         let got = read_cut(rt.alloc(), count)?;
         let whole = match count {
-            28 => b"P.13: 1 D pic 96@16 Display Trailing.18: 1 YY pic 92@21 Display Trailing.26: MAIN-PARA 0.".as_slice(),
-            33 => b"P.13: 1 D pic 96@16 Display Trailing.18: 1 YY pic 92@21 Display Trailing.26: MAIN-PARA 1.",
-            38 => b"P.13: 1 D pic 96@16 Display Trailing.18: 1 YY pic 92@21 Display Trailing.26: MAIN-PARA 2.",
-            41 => b"P.13: 1 D pic 96@16 Display Trailing.18: 1 YY pic 92@21 Display Trailing.26: MAIN-PARA 3.",
+            28 =>
+                b"P.13: 1 D pic 96@16 Display Trailing.18: 1 YY pic 92@21 Display Trailing.26: MAIN-PARA 0.".as_slice(),
+            33 =>
+                b"P.13: 1 D pic 96@16 Display Trailing.18: 1 YY pic 92@21 Display Trailing.26: MAIN-PARA 1.",
+            38 =>
+                b"P.13: 1 D pic 96@16 Display Trailing.18: 1 YY pic 92@21 Display Trailing.26: MAIN-PARA 2.",
+            41 =>
+                b"P.13: 1 D pic 96@16 Display Trailing.18: 1 YY pic 92@21 Display Trailing.26: MAIN-PARA 3.",
             _ => b"",
         };
         if !whole.is_empty() {
             assert_eq!(rt; got.items(), whole);
         } else if count == 0 {
-            assert_eq!(rt; got.items(), b"UnitShape 1:1");
+            assert_eq!(rt; got.items(), b"UnitShape 1:1".as_slice());
         } else {
             let last = count - 1;
             let want = format!(in rt.alloc(); "UnitShape 7:{last}")?;
@@ -488,7 +617,10 @@ fn a_program_cut_after_each_word_is_read_or_refused_at_its_last_word(rt: HostRun
 #[test]
 fn sentences_stand_in_paragraphs_and_sections(rt: HostRuntime) -> Result<(), Fail> {
     for (text, want) in [
-        (b"STOP RUN . A . STOP RUN . STOP RUN . B SECTION . C .".as_slice(), b"P.10:  1.13: A 2.21: B section 0.24: C 0.".as_slice()),
+        (
+            b"STOP RUN . A . STOP RUN . STOP RUN . B SECTION . C .".as_slice(),
+            b"P.10:  1.13: A 2.21: B section 0.24: C 0.".as_slice(),
+        ),
         (b"B SECTION . STOP RUN .", b"P.10: B section 1."),
         (b"A . CALL \"X . STOP RUN .", b"UnitShape 7:12"),
         (b"CALL \"X .", b"UnitShape 7:10"),
@@ -496,14 +628,22 @@ fn sentences_stand_in_paragraphs_and_sections(rt: HostRuntime) -> Result<(), Fai
         (b"IF A = 1 STOP", b"UnitShape 7:14"),
     ] {
         let mut words = List::new(rt.alloc());
-        push_text(rt.alloc(), &mut words, b"ID DIVISION . PROGRAM-ID . P . PROCEDURE DIVISION .")?;
+        push_text(
+            rt.alloc(),
+            &mut words,
+            b"ID DIVISION . PROGRAM-ID . P . PROCEDURE DIVISION .",
+        )?;
         push_text(rt.alloc(), &mut words, text)?;
         let got = read(rt.alloc(), words)?;
         assert_eq!(rt; got.items(), want);
     }
     for (count, want) in [(64, b"P.10:  1.".as_slice()), (65, b"NestDeep 7:10")] {
         let mut words = List::new(rt.alloc());
-        push_text(rt.alloc(), &mut words, b"ID DIVISION . PROGRAM-ID . P . PROCEDURE DIVISION .")?;
+        push_text(
+            rt.alloc(),
+            &mut words,
+            b"ID DIVISION . PROGRAM-ID . P . PROCEDURE DIVISION .",
+        )?;
         for _ in 0..count {
             push_text(rt.alloc(), &mut words, b"IF A = 1")?;
         }

@@ -40,17 +40,6 @@ impl<'a> Units<'a> {
         }
     }
 
-    /// What the word at a position is; `Unlisted` past the last word.
-    #[tactic(auto, unfolding(crate::specs::Views::term))]
-    pub fn term(&self, at: u32) -> Term
-        ensures { result ≡ spec.term (view_of self.now) at }
-    {
-        match self.terms.get(at as usize) {
-            Some(term) => *term,
-            None => Term::Unlisted,
-        }
-    }
-
     /// The position after a word that may be left out.
     #[tactic(auto, unfolding(crate::specs::Views::past))]
     pub fn past(&self, term: Term, at: u32) -> u32
@@ -64,7 +53,11 @@ impl<'a> Units<'a> {
     pub fn past_is(&self, at: u32) -> u32
         ensures { result ≡ spec.past_is (view_of self.now) at }
     {
-        if self.parts.sees(Symbol::Is, at) { at + 1 } else { at }
+        if self.parts.sees(Symbol::Is, at) {
+            at + 1
+        } else {
+            at
+        }
     }
 
     /// The position after an IS or ARE that may be left out.
@@ -72,7 +65,11 @@ impl<'a> Units<'a> {
     pub fn past_is_or_are(&self, at: u32) -> u32
         ensures { result ≡ spec.past_is_or_are (view_of self.now) at }
     {
-        if self.parts.sees(Symbol::Is, at) { at + 1 } else { self.past(Term::Are, at) }
+        if self.parts.sees(Symbol::Is, at) {
+            at + 1
+        } else {
+            self.past(Term::Are, at)
+        }
     }
 
     /// The position after the period that ends a unit.
@@ -80,7 +77,11 @@ impl<'a> Units<'a> {
     pub fn ended(&self, at: u32) -> Option<u32>
         ensures { result ≡ spec.ended (view_of self.now) at }
     {
-        if self.parts.sees(Symbol::Period, at) { Some(at + 1) } else { None }
+        if self.parts.sees(Symbol::Period, at) {
+            Some(at + 1)
+        } else {
+            None
+        }
     }
 
     /// A unit of one word.
@@ -88,7 +89,11 @@ impl<'a> Units<'a> {
     pub fn header(&self, term: Term, at: u32) -> Option<u32>
         ensures { result ≡ spec.header (view_of self.now) term at }
     {
-        if self.has(term, at) { self.ended(at + 1) } else { None }
+        if self.has(term, at) {
+            self.ended(at + 1)
+        } else {
+            None
+        }
     }
 
     /// A unit of two words, of which the second is DIVISION or SECTION.
@@ -96,7 +101,11 @@ impl<'a> Units<'a> {
     pub fn headers(&self, first: Term, second: Term, at: u32) -> Option<u32>
         ensures { result ≡ spec.headers (view_of self.now) first second at }
     {
-        if self.has(first, at) { self.header(second, at + 1) } else { None }
+        if self.has(first, at) {
+            self.header(second, at + 1)
+        } else {
+            None
+        }
     }
 
     /// A unit of one name.

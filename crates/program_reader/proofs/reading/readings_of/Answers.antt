@@ -12,6 +12,6 @@ returns-clause-read c =
 pub returns-clause-paired : goal.returns-clause-paired
 returns-clause-paired c =
     let read : AreReadings c.args.words.now c.loop-words.readings =
-        subst (λ (xs : List Reading). AreReadings c.args.words.now xs) (append-nil c.loop-words.readings)
-        (c.loop-words.invariant [] (no_words c.loop-words.words.now (omega arith))) in
+    subst (λ (xs : List Reading). AreReadings c.args.words.now xs) (append-nil c.loop-words.readings)
+    (c.loop-words.invariant [] (no_words c.loop-words.words.now (omega arith))) in
     same_length c.args.words.now c.loop-words.readings read
