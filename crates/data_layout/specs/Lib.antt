@@ -1,0 +1,5 @@
+pub mod Items
+pub mod Number
+pub mod Sections
+pub mod Sizes
+pub mod Tree
