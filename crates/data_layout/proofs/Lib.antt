@@ -1,1 +1,2 @@
+pub mod InSections
 pub mod Laid

@@ -1,5 +1,6 @@
 ghost use Rattle.std.specs.Prelude.{◌≡◌, ◌+◌, ◌++◌, ◌∷◌, length, IfOk, Some};
-ghost use Rattle.data_layout.specs.Tree.{within, forest, parts_of, beside, GoesOn};
+ghost use Rattle.data_layout.specs.Tree as tree;
+ghost use Rattle.data_layout.specs.Tree.{within, forest, parts_of, GoesOn};
 ghost use Rattle.data_layout.specs.Sizes as sizes;
 ghost use Rattle.data_layout.specs.Items as spec;
 
@@ -208,18 +209,18 @@ fn start_of(around: &Around, entry: &Entry, next: u128, object: u128) -> u128
 /// Lays the item of an entry and its parts, which `inner` begins with. Gives what the item adds to the bytes of
 /// its group, and the entries after its parts.
 #[cycle(lay)]
-pub(crate) fn lay_item(
+pub(crate) fn lay_item<'a>(
     alloc: Global,
     sheet: &mut Sheet,
     around: &Around,
     start: u128,
     entry: &Entry,
-    inner: &[Entry],
-) -> Result<(u128, &[Entry]), Memory>
+    inner: &'a [Entry],
+) -> Result<(u128, &'a [Entry]), Memory>
     ensures adds { IfOk result (λ laid. laid.0 ≡ sizes.adds entry.now (sizes.total (parts_of entry.now inner.now))) }
     ensures items { IfOk result (λ _. sheet.new.items ≡ sheet.old.items ++ spec.item_of around.now start entry.now (sizes.size entry.now (parts_of entry.now inner.now)) ∷ spec.items (spec.inside around.now (length sheet.old.items) entry.now (sizes.size entry.now (parts_of entry.now inner.now))) (length sheet.old.items + 1) start start (parts_of entry.now inner.now)) }
     ensures conds { IfOk result (λ _. sheet.new.conds ≡ sheet.old.conds ++ spec.conds (Some (length sheet.old.items)) (length sheet.old.items + 1) (parts_of entry.now inner.now)) }
-    ensures rest { IfOk result (λ laid. GoesOn (rank entry.now.level) inner.now laid.1.now) }
+    ensures rest { IfOk result (λ laid. GoesOn (tree.rank entry.now.level) inner.now laid.1.now) }
 {
     let (of_parts, _) = measure(inner, rank(entry.level))?;
     let bytes = narrow(once(entry, of_parts)?)?;
@@ -233,14 +234,14 @@ pub(crate) fn lay_item(
 
 /// Lays the items of the entries that lie within the rank, from `start` on. Gives the entries after them.
 #[cycle(lay)]
-pub(crate) fn lay_parts(
+pub(crate) fn lay_parts<'a>(
     alloc: Global,
     sheet: &mut Sheet,
     around: &Around,
     start: u128,
-    entries: &[Entry],
+    entries: &'a [Entry],
     around_rank: u8,
-) -> Result<&[Entry], Memory>
+) -> Result<&'a [Entry], Memory>
     ensures items { IfOk result (λ _. sheet.new.items ≡ sheet.old.items ++ spec.items around.now (length sheet.old.items) start start (within around_rank (forest entries.now))) }
     ensures conds { IfOk result (λ _. sheet.new.conds ≡ sheet.old.conds ++ spec.conds around.now.parent (length sheet.old.items) (within around_rank (forest entries.now))) }
     ensures rest { IfOk result (λ rest. GoesOn around_rank entries.now rest.now) }

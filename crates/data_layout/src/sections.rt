@@ -1,4 +1,4 @@
-ghost use Rattle.std.specs.Prelude.{◌≡◌, ◌+◌, ◌++◌, length, IfOk, None};
+ghost use Rattle.std.specs.Prelude.{◌≡◌, ◌+◌, ◌++◌, ◌∷◌, [], length, IfOk, IfSome, IfNone, None};
 ghost use Rattle.data_layout.specs.Tree.{parts_of};
 ghost use Rattle.data_layout.specs.Items as items;
 ghost use Rattle.data_layout.specs.Sections as spec;
@@ -109,6 +109,17 @@ fn lay_file(
     Ok(())
 }
 
+/// The first file and those after it.
+pub(crate) fn first_file(files: &[FileEntry]) -> Option<(&FileEntry, &[FileEntry])>
+    ensures some { IfSome result (λ first. files.now ≡ first.0.now ∷ first.1.now) }
+    ensures none { IfNone result (files.now ≡ []) }
+{
+    match files {
+        [] => None,
+        [file, more @ ..] => Some((file, more)),
+    }
+}
+
 /// Lays the files, the first in that area. Gives the area after theirs.
 fn lay_files(
     alloc: Global,
@@ -125,7 +136,7 @@ fn lay_files(
 {
     let mut id = first;
     let mut rest = files;
-    while let [file, more @ ..] = rest {
+    while let Some((file, more)) = first_file(rest) {
         areas.push(file_area(alloc, id, file)?)?;
         lay_file(alloc, sheet, id, file)?;
         id = next_area(id)?;
