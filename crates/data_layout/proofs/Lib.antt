@@ -1,2 +1,6 @@
+pub mod Checked
+pub mod CheckedItem
+pub mod InNames
 pub mod InSections
 pub mod Laid
+pub mod Telling

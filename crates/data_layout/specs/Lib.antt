@@ -1,5 +1,9 @@
+pub mod Faults
 pub mod Items
+pub mod Names
 pub mod Number
+pub mod Rules
 pub mod Sections
 pub mod Sizes
 pub mod Tree
+pub mod Values

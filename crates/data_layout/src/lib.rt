@@ -2,13 +2,21 @@
 //! make, the place and form of each item, and what a data name means.
 #![tactic(auto)]
 
+mod check;
+mod fault;
 mod item;
 mod lay;
 mod measure;
+mod names;
 mod number;
 mod portfolio;
+mod rules;
 mod sections;
 mod tree;
+mod values;
+mod whole;
 
+pub use fault::LayoutFault;
 pub use item::{Area, Class, CondItem, Item, Layout, Step};
 pub use portfolio::{FileArea, FileUse, ItemRef, Portfolio};
+pub use whole::lay_out;

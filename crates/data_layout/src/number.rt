@@ -55,7 +55,7 @@ fn run_bytes(run: Run) -> u128
     }
 }
 
-fn digits(runs: &[Run]) -> Result<u128, Memory>
+pub(crate) fn digits(runs: &[Run]) -> Result<u128, Memory>
     ensures { IfOk result (λ count. count ≡ number.digits runs.now) }
 {
     let mut count = 0;
@@ -73,7 +73,7 @@ fn is_point(symbol: u8) -> bool
     symbol == b'V' || symbol == b'.'
 }
 
-fn decimals(runs: &[Run]) -> Result<u128, Memory>
+pub(crate) fn decimals(runs: &[Run]) -> Result<u128, Memory>
     ensures { IfOk result (λ count. count ≡ number.decimals runs.now) }
 {
     let mut rest = runs;
@@ -87,7 +87,7 @@ fn decimals(runs: &[Run]) -> Result<u128, Memory>
     Ok(0)
 }
 
-fn is_signed(runs: &[Run]) -> bool
+pub(crate) fn is_signed(runs: &[Run]) -> bool
     ensures { result ≡ number.is_signed runs.now }
 {
     let mut rest = runs;
@@ -165,7 +165,7 @@ fn sign_bytes(place: SignPlace, runs: &[Run]) -> u128
     }
 }
 
-fn runs_of(picture: &Option<Picture>) -> &[Run]
+pub(crate) fn runs_of(picture: &Option<Picture>) -> &[Run]
     ensures { result.now ≡ number.runs_of picture.now }
 {
     match picture {

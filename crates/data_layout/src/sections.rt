@@ -26,7 +26,7 @@ fn greater(first: u128, second: u128) -> u128
 }
 
 /// The greatest length of the items of a section.
-fn greatest(entries: &[Entry]) -> Result<u128, Memory>
+pub(crate) fn greatest(entries: &[Entry]) -> Result<u128, Memory>
     ensures { IfOk result (λ bytes. bytes ≡ spec.greatest 0 (spec.tops entries.now)) }
 {
     let mut most = 0;
