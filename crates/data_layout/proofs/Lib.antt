@@ -1,5 +1,6 @@
 pub mod Checked
 pub mod CheckedItem
+pub mod InFind
 pub mod InNames
 pub mod InSections
 pub mod Laid

@@ -1,4 +1,5 @@
 pub mod Faults
+pub mod Find
 pub mod Items
 pub mod Names
 pub mod Number

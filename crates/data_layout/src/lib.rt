@@ -4,6 +4,7 @@
 
 mod check;
 mod fault;
+mod find;
 mod item;
 mod lay;
 mod measure;
@@ -17,6 +18,7 @@ mod values;
 mod whole;
 
 pub use fault::LayoutFault;
+pub use find::Found;
 pub use item::{Area, Class, CondItem, Item, Layout, Step};
 pub use portfolio::{FileArea, FileUse, ItemRef, Portfolio};
 pub use whole::lay_out;

@@ -1,6 +1,7 @@
 ghost use Rattle.std.specs.Prelude.{◌≡◌, [], IfOk, IfErr, OnOk};
 ghost use Rattle.data_layout.specs.Sections.{layout_of};
 ghost use Rattle.data_layout.specs.Faults.{faults_of, IsFirst};
+ghost use Rattle.data_layout.specs.Find.{IsSmall};
 
 use crate::check::check_program;
 use crate::fault::LayoutFault;
@@ -14,6 +15,7 @@ use y2k_base::AreaId;
 /// working storage. Lengths of 2 to the 128 or more, and numbers of items and areas past 32 bits, are want of memory.
 pub fn lay_out(alloc: Global, program: &Program, first: AreaId) -> Result<Layout, LayoutFault>
     ensures layout { IfOk result (λ layout. layout ≡ layout_of first program.now) }
+    ensures small { IfOk result IsSmall }
     ensures right { OnOk result (faults_of program.now ≡ []) }
     ensures fault { IfErr result (λ fault. IsFirst fault (faults_of program.now)) }
 {
