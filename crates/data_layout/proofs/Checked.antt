@@ -1,13 +1,13 @@
 -- Steps over entries that are checked.
 use Rattle.std.specs.Prelude.{Result, Ok, Err, IsErr, IsErrAnd}
-use Rattle.std.proofs.Common.{not, ◌||◌, ◌≡◌, ◌≢◌, ℕ, Bool, List, [], ◌∷◌, ◌++◌, refl, sym, ap, ◌∙◌, subst, if◌then◌else◌}
+use Rattle.std.proofs.Common.{not, ◌||◌, ◌≡◌, ◌≢◌, ℕ, Bool, List, [], ◌++◌, sym, ap, ◌∙◌, subst, if◌then◌else◌}
 use Rattle.y2k_base.specs.declared.word.Word.{Word}
 use Rattle.cobol_syntax.specs.declared.program.Entry.{Entry}
 use Rattle.data_layout.specs.declared.fault.LayoutFault.{LayoutFault}
 use Rattle.data_layout.specs.declared.rules.Setting.{Setting}
 use Rattle.data_layout.specs.declared.rules.Objects.{Objects}
-use Rattle.data_layout.specs.Tree.{rank, Forest, node, within, forest, parts_of, beside, BeginsWithin, GoesOn}
-use Rattle.data_layout.specs.Sizes.{whole, size}
+use Rattle.data_layout.specs.Tree.{rank, Forest, within, forest, parts_of, beside, BeginsWithin, GoesOn}
+use Rattle.data_layout.specs.Sizes.{whole}
 use Rattle.data_layout.specs.Rules.{objects_after, holds_items}
 use Rattle.data_layout.specs.Faults.{Known, with_name, faults, names_after, faults_of_name, faults_of_item, IsFirst, Tells}
 use Rattle.data_layout.proofs.Laid.{named, not_named, beside-named}

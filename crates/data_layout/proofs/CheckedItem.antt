@@ -1,11 +1,11 @@
 -- The faults of an item, from the checks of its parts.
-use Rattle.std.proofs.Common.{◌≡◌, ℕ, Bool, List, [], ◌∷◌, ◌++◌, refl, sym, ap, ◌∙◌, subst}
+use Rattle.std.proofs.Common.{◌≡◌, ℕ, Bool, List, [], ◌++◌, sym, ap, ◌∙◌, subst}
 use Rattle.y2k_base.specs.declared.word.Word.{Word}
 use Rattle.cobol_syntax.specs.declared.program.Entry.{Entry}
 use Rattle.data_layout.specs.declared.fault.LayoutFault.{LayoutFault}
 use Rattle.data_layout.specs.declared.rules.Setting.{Setting}
 use Rattle.data_layout.specs.declared.rules.Objects.{Objects}
-use Rattle.data_layout.specs.Tree.{rank, Forest, within, forest, parts_of}
+use Rattle.data_layout.specs.Tree.{rank, within, forest, parts_of}
 use Rattle.data_layout.specs.Sizes.{total, once, bytes_of, whole, size}
 use Rattle.data_layout.specs.Rules.{holds_items, setting_in, no_objects}
 use Rattle.data_layout.specs.Faults.{Known, no_names, faults, faults_before, faults_after, faults_of_item, IsFirst}

@@ -1,5 +1,5 @@
 -- Steps over the entries of a section and over files.
-use Rattle.std.proofs.Common.{◌≡◌, ◌≢◌, ℕ, ◌+◌, Bool, true, false, List, [], ◌∷◌, ◌++◌, length, refl, sym, ap, ◌∙◌, subst, arith, append_assoc, length-append, Option, Some, None, if◌then◌else◌}
+use Rattle.std.proofs.Common.{◌≡◌, ◌≢◌, ℕ, ◌+◌, Bool, List, [], ◌∷◌, ◌++◌, length, refl, sym, ap, ◌∙◌, arith, append_assoc, length-append, None, if◌then◌else◌}
 use Rattle.y2k_base.specs.declared.place.AreaId.{AreaId}
 use Rattle.cobol_syntax.specs.declared.program.Entry.{Entry}
 use Rattle.cobol_syntax.specs.declared.program.FileEntry.{FileEntry}
@@ -8,8 +8,8 @@ use Rattle.data_layout.specs.declared.item.Area.{Area}
 use Rattle.data_layout.specs.declared.item.CondItem.{CondItem}
 use Rattle.data_layout.specs.declared.lay.Around.{Around}
 use Rattle.data_layout.specs.declared.sections.Owners.{Owners}
-use Rattle.data_layout.specs.Tree.{rank, Forest, nothing, node, within, forest, parts_of, beside, BeginsWithin, GoesOn}
-use Rattle.data_layout.specs.Sizes.{is_named, total, size, whole}
+use Rattle.data_layout.specs.Tree.{rank, Forest, node, within, forest, parts_of, beside, BeginsWithin, GoesOn}
+use Rattle.data_layout.specs.Sizes.{is_named, size}
 use Rattle.data_layout.specs.Items.{items, conds, item_of, inside, item_count}
 use Rattle.data_layout.specs.Sections.{tops, next_area, record_area, own_area, area_for, owners_after, storage_items, storage_areas, own_areas, files_items, files_conds, files_areas, files_count, file_area, after_files}
 use Rattle.data_layout.proofs.Laid.{named, not_named, beside-named, joined, joined-conds, item_count-items}

@@ -1,12 +1,11 @@
 -- Steps over entries that stand side by side.
-use Rattle.std.proofs.Common.{◌≡◌, ◌≢◌, ℕ, ◌+◌, ◌<◌, ◌≤◌, ◌||◌, ◌==◌, Bool, true, false, nat_lt, cond, List, [], ◌∷◌, ◌++◌, length, refl, sym, ap, ◌∙◌, subst, arith, append_assoc, length-append, Option, Some, None, if◌then◌else◌}
+use Rattle.std.proofs.Common.{◌≡◌, ◌≢◌, ℕ, ◌+◌, ◌||◌, ◌==◌, Bool, true, false, nat_lt, List, [], ◌∷◌, ◌++◌, length, refl, sym, ap, ◌∙◌, arith, append_assoc, length-append, Option, Some, if◌then◌else◌}
 use Rattle.std.proofs.lemmas.Bool.{eqb-true}
-use Rattle.y2k_base.specs.declared.place.AreaId.{AreaId}
 use Rattle.cobol_syntax.specs.declared.program.Entry.{Entry}
 use Rattle.data_layout.specs.declared.item.Item.{Item}
 use Rattle.data_layout.specs.declared.item.CondItem.{CondItem}
 use Rattle.data_layout.specs.declared.lay.Around.{Around}
-use Rattle.data_layout.specs.Tree.{rank, Forest, nothing, node, within, beyond, forest, parts_of, beside, BeginsWithin, BeginsBeyond, GoesOn}
+use Rattle.data_layout.specs.Tree.{rank, Forest, nothing, node, within, beyond, forest, parts_of, beside, BeginsWithin, GoesOn}
 use Rattle.data_layout.specs.Sizes.{is_named, total, size, adds}
 use Rattle.data_layout.specs.Items.{items, conds, item_of, cond_of, inside, start_of, item_count}
 

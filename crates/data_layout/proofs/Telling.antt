@@ -1,5 +1,5 @@
 -- Faults of two parts, one after the other.
-use Rattle.std.proofs.Common.{◌≡◌, ◌≢◌, ◌⊎◌, inl, inr, ℕ, Bool, true, false, List, [], ◌∷◌, ◌++◌, refl, sym, ap, ◌∙◌, subst, Option, Some, None}
+use Rattle.std.proofs.Common.{◌≡◌, inl, inr, List, [], ◌∷◌, ◌++◌, sym, ap, ◌∙◌, subst, Some}
 use Rattle.data_layout.specs.declared.fault.LayoutFault.{LayoutFault}
 use Rattle.data_layout.specs.Faults.{first, IsFirst}
 

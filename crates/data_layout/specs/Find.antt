@@ -1,5 +1,5 @@
 -- What a data name with its qualifiers means.
-use Rattle.std.specs.Prelude.{ℕ, zero, suc, ◌+◌, ◌^◌, ◌<◌, ◌≡◌, Bool, true, false, ◌||◌, ◌&&◌, ◌==◌, bytes_eq, List, [], ◌∷◌, ◌++◌, length, Option, Some, None, if◌then◌else◌, slice_get, option_map}
+use Rattle.std.specs.Prelude.{ℕ, zero, suc, ◌+◌, ◌^◌, ◌<◌, ◌≡◌, Bool, true, false, ◌||◌, ◌&&◌, ◌==◌, bytes_eq, List, [], ◌∷◌, length, Option, Some, None, if◌then◌else◌, slice_get, option_map}
 use Rattle.y2k_base.specs.declared.place.Span.{Span}
 use Rattle.y2k_base.specs.declared.place.AreaId.{AreaId}
 use Rattle.data_layout.specs.declared.item.Item.{Item}
@@ -98,8 +98,8 @@ meaning layout (name ∷ qualifiers) =
     with (among_items (item_fits layout name qualifiers) 0 layout.items)
     (among_conds (cond_fits layout name qualifiers) 0 layout.conds)
 
--- items and condition-names have numbers of 32 bits
-pub record IsSmall (layout : Layout) : Type 0 where
+-- what counting and finding ask of a layout, and each that is laid out keeps: numbers of 32 bits
+pub record IsReady (layout : Layout) : Type 0 where
   pub items : length layout.items < 2 ^ 32
   pub conds : length layout.conds < 2 ^ 32
 

@@ -1,9 +1,8 @@
 -- Which items and condition-names entries make, and where the items stand.
-use Rattle.std.specs.Prelude.{ℕ, ◌+◌, Bool, true, false, ◌||◌, List, [], ◌∷◌, ◌++◌, Option, Some, None, if◌then◌else◌, is_some}
+use Rattle.std.specs.Prelude.{ℕ, ◌+◌, false, ◌||◌, List, [], ◌∷◌, ◌++◌, Option, Some, None, if◌then◌else◌, is_some}
 use Rattle.y2k_base.specs.declared.picture.Picture.{Picture}
 use Rattle.y2k_base.specs.declared.picture.PicClass.{PicClass}
 use Rattle.y2k_base.specs.declared.picture.PicClass.TheVariants as picture
-use Rattle.y2k_base.specs.declared.place.AreaId.{AreaId}
 use Rattle.cobol_syntax.specs.declared.program.Entry.{Entry}
 use Rattle.data_layout.specs.declared.item.Item.{Item}
 use Rattle.data_layout.specs.declared.item.Step.{Step}

@@ -3,6 +3,7 @@ pub mod Find
 pub mod Items
 pub mod Names
 pub mod Number
+pub mod Occurrences
 pub mod Rules
 pub mod Sections
 pub mod Sizes

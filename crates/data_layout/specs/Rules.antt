@@ -1,5 +1,5 @@
 -- What an entry has to keep, rule by rule.
-use Rattle.std.specs.Prelude.{ℕ, ℤ, pos, unsigned_abs, int_lt, ◌+◌, Bool, true, false, not, ◌||◌, ◌&&◌, ◌==◌, nat_le, nat_lt, bytes_eq, List, [], ◌∷◌, length, Option, Some, None, is_some, if◌then◌else◌}
+use Rattle.std.specs.Prelude.{ℕ, ℤ, pos, unsigned_abs, int_lt, ◌+◌, Bool, true, false, not, ◌||◌, ◌&&◌, ◌==◌, nat_le, bytes_eq, List, length, Option, Some, None, is_some, if◌then◌else◌}
 use Rattle.y2k_base.specs.declared.picture.Picture.{Picture}
 use Rattle.y2k_base.specs.declared.picture.PicClass.{PicClass}
 use Rattle.y2k_base.specs.declared.picture.PicClass.TheVariants as picture

@@ -1,5 +1,5 @@
 -- The layout of a program: its record areas and what stands in them, then working storage.
-use Rattle.std.specs.Prelude.{ℕ, ◌+◌, Bool, true, false, ◌||◌, ◌==◌, nat_le, List, [], ◌∷◌, ◌++◌, Option, Some, None, if◌then◌else◌, is_some}
+use Rattle.std.specs.Prelude.{ℕ, ◌≡◌, ◌+◌, true, false, ◌==◌, nat_le, List, [], ◌∷◌, ◌++◌, Some, None, if◌then◌else◌, is_some}
 use Rattle.y2k_base.specs.declared.place.AreaId.{AreaId}
 use Rattle.cobol_syntax.specs.declared.program.Entry.{Entry}
 use Rattle.cobol_syntax.specs.declared.program.FileEntry.{FileEntry}
@@ -107,11 +107,20 @@ storage_areas owners (node e parts others) =
 abbrev pub owners_from : AreaId → Owners
 owners_from id = record { next = id; common = id; single = id }
 
--- the layout of a program whose areas are numbered from this one on
-abbrev pub layout_of : AreaId → Program → Layout
-layout_of first program = record {
-  items = files_items first 0 program.files
-      ++ storage_items (owners_from (after_files first program.files)) (files_count program.files) (tops program.storage);
-  conds = files_conds 0 program.files ++ conds None (files_count program.files) (tops program.storage);
-  areas = files_areas first program.files ++ storage_areas (owners_from (after_files first program.files)) (tops program.storage);
-}
+-- the items, condition-names and areas of a program whose areas are numbered from this one on
+abbrev pub items_of : AreaId → Program → List Item
+items_of first program =
+    files_items first 0 program.files
+    ++ storage_items (owners_from (after_files first program.files)) (files_count program.files) (tops program.storage)
+
+abbrev pub conds_of : Program → List CondItem
+conds_of program = files_conds 0 program.files ++ conds None (files_count program.files) (tops program.storage)
+
+abbrev pub areas_of : AreaId → Program → List Area
+areas_of first program =
+    files_areas first program.files ++ storage_areas (owners_from (after_files first program.files)) (tops program.storage)
+
+pub record IsLayout (first : AreaId) (program : Program) (layout : Layout) : Type 0 where
+  pub items : layout.items ≡ items_of first program
+  pub conds : layout.conds ≡ conds_of program
+  pub areas : layout.areas ≡ areas_of first program

@@ -1,5 +1,5 @@
 -- How many bytes items have: a group has those of its parts that redefine nothing, each as often as it occurs.
-use Rattle.std.specs.Prelude.{ℕ, ◌+◌, ◌*◌, Bool, true, false, ◌||◌, ◌==◌, Option, Some, None, if◌then◌else◌, is_some}
+use Rattle.std.specs.Prelude.{ℕ, ◌+◌, ◌*◌, Bool, ◌||◌, ◌==◌, Option, Some, None, if◌then◌else◌, is_some}
 use Rattle.y2k_base.specs.declared.picture.Picture.{Picture}
 use Rattle.cobol_syntax.specs.declared.program.Entry.{Entry}
 use Rattle.data_layout.specs.Tree.{Forest, nothing, node}

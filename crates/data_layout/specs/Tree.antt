@@ -1,6 +1,6 @@
 -- The tree that entries make by their levels: an entry has as its parts those that follow it with higher
 -- levels, up to the first that has none.
-use Rattle.std.specs.Prelude.{ℕ, Bool, ◌||◌, ◌==◌, nat_lt, ◌≡◌, ◌<◌, ◌≤◌, List, [], ◌∷◌, length, if◌then◌else◌}
+use Rattle.std.specs.Prelude.{ℕ, ◌||◌, ◌==◌, nat_lt, ◌≡◌, ◌<◌, ◌≤◌, List, [], ◌∷◌, length, if◌then◌else◌}
 use Rattle.cobol_syntax.specs.declared.program.Entry.{Entry}
 
 -- how deep a level stands: a 77 stands beside the 01, and an 88 under any item. Levels that no entry has

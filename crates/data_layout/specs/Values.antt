@@ -1,5 +1,5 @@
 -- Whether a number or an edited item keeps a value that is moved to it.
-use Rattle.std.specs.Prelude.{ℕ, ℤ, pos, unsigned_abs, int_lt, ◌-◌, ◌*◌, ◌^◌, ◌/◌, ◌%◌, Bool, true, false, not, ◌||◌, ◌&&◌, ◌==◌, nat_le, nat_lt, List, if◌then◌else◌}
+use Rattle.std.specs.Prelude.{ℕ, ℤ, pos, unsigned_abs, int_lt, ◌-◌, ◌*◌, ◌^◌, ◌/◌, ◌%◌, Bool, not, ◌||◌, ◌&&◌, ◌==◌, nat_le, nat_lt, List, if◌then◌else◌}
 use Rattle.y2k_base.specs.declared.picture.Run.{Run}
 use Rattle.decimal_bytes.specs.declared.form.Scaled.{Scaled}
 use Rattle.data_layout.specs.Number.{digits, decimals, is_signed}

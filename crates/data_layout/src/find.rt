@@ -1,6 +1,6 @@
 ghost use Rattle.std.specs.Prelude.{◌≡◌, ◌<◌, ◌∷◌, [], length, slice_get, IfSome, IfNone, Some, if◌then◌else◌};
 ghost use Rattle.data_layout.specs.Find as spec;
-ghost use Rattle.data_layout.specs.Find.{IsSmall, IsPlace};
+ghost use Rattle.data_layout.specs.Find.{IsReady, IsPlace};
 ghost use Rattle.data_layout.specs.declared.find.Found.TheVariants as found;
 
 use crate::item::{Area, Class, CondItem, Item, Layout};
@@ -185,7 +185,7 @@ fn first_cond(conds: &[CondItem]) -> Option<(&CondItem, &[CondItem])>
 impl Layout {
     /// How many items there are.
     pub fn count(&self) -> u32
-        requires { IsSmall self.now }
+        requires { IsReady self.now }
         ensures { result ≡ length self.now.items }
     {
         self.items.len() as u32
@@ -201,7 +201,7 @@ impl Layout {
 
     /// What a data name means: `names` are the name and its qualifiers, from the innermost on.
     pub fn find(&self, names: &[Bytes]) -> Found
-        requires { IsSmall self.now }
+        requires { IsReady self.now }
         ensures { result ≡ spec.meaning self.now names.now }
     {
         match names {
@@ -258,7 +258,7 @@ impl Layout {
     }
 
     fn among_items(&self, name: &Bytes, qualifiers: &[Bytes]) -> Found
-        requires { IsSmall self.now }
+        requires { IsReady self.now }
         ensures { result ≡ spec.among_items (spec.item_fits self.now name.now qualifiers.now) 0 self.now.items }
     {
         let mut found = Found::Unknown;
@@ -274,7 +274,7 @@ impl Layout {
     }
 
     fn among_conds(&self, name: &Bytes, qualifiers: &[Bytes]) -> Found
-        requires { IsSmall self.now }
+        requires { IsReady self.now }
         ensures { result ≡ spec.among_conds (spec.cond_fits self.now name.now qualifiers.now) 0 self.now.conds }
     {
         let mut found = Found::Unknown;

@@ -22,3 +22,6 @@ pub use find::Found;
 pub use item::{Area, Class, CondItem, Item, Layout, Step};
 pub use portfolio::{FileArea, FileUse, ItemRef, Portfolio};
 pub use whole::lay_out;
+
+#[cfg(test)]
+mod tests;

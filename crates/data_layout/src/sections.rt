@@ -2,7 +2,7 @@ ghost use Rattle.std.specs.Prelude.{◌≡◌, ◌+◌, ◌++◌, ◌∷◌, [],
 ghost use Rattle.data_layout.specs.Tree.{parts_of};
 ghost use Rattle.data_layout.specs.Items as items;
 ghost use Rattle.data_layout.specs.Sections as spec;
-ghost use Rattle.data_layout.specs.Find.{IsSmall};
+ghost use Rattle.data_layout.specs.Find.{IsReady};
 
 use crate::item::{Area, Layout};
 use crate::lay::{Around, Sheet, cond_of, lay_item, lay_parts, narrow};
@@ -252,7 +252,7 @@ fn lay_storage(
 /// The layout, if items and condition-names have numbers of 32 bits.
 fn small(layout: Layout) -> Result<Layout, Memory>
     ensures same { IfOk result (λ same. same ≡ layout) }
-    ensures small { IfOk result IsSmall }
+    ensures ready { IfOk result IsReady }
 {
     if layout.items.len() < MANY && layout.conds.len() < MANY {
         Ok(layout)
@@ -263,8 +263,8 @@ fn small(layout: Layout) -> Result<Layout, Memory>
 
 /// The layout of a program whose areas are numbered from that one on.
 pub(crate) fn lay_program(alloc: Global, program: &Program, first: AreaId) -> Result<Layout, Memory>
-    ensures layout { IfOk result (λ layout. layout ≡ spec.layout_of first program.now) }
-    ensures small { IfOk result IsSmall }
+    ensures layout { IfOk result (spec.IsLayout first program.now) }
+    ensures ready { IfOk result IsReady }
 {
     let mut sheet = Sheet {
         items: List::new(alloc),

@@ -1,10 +1,9 @@
-use Rattle.std.proofs.Common.{◌≡◌, ◌∙◌, ap, sym, subst, List, length, arith, ℕ}
+use Rattle.std.proofs.Common.{◌∙◌, sym, subst, List, arith}
 use Rattle.data_layout.specs.declared.fault.LayoutFault.{LayoutFault}
-use Rattle.data_layout.specs.Tree.{forest, within, parts_of}
 use Rattle.data_layout.specs.Names.{named}
 use Rattle.data_layout.specs.Faults as spec
 use Rattle.data_layout.proofs.Laid.{beyond-after-named, beyond-after}
-use Rattle.data_layout.proofs.Telling.{IsFirst-front, IsFirst-rest, none-both}
+use Rattle.data_layout.proofs.Telling.{IsFirst-front}
 use Rattle.data_layout.proofs.Checked.{carried, at-name, at-item-front, past-name, past-item, names-past-name, names-past-item}
 use Rattle.data_layout.proofs.CheckedItem.{fails-before, fails-under, fails-after, has-none}
 use Rattle.data_layout.proofs.check.+check.Goals as goal

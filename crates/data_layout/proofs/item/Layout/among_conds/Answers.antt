@@ -1,6 +1,6 @@
-use Rattle.std.proofs.Common.{◌∙◌, ap, sym, arith, length, List}
+use Rattle.std.proofs.Common.{◌∙◌, ap, sym, arith, length}
 use Rattle.data_layout.specs.Find as spec
-use Rattle.data_layout.proofs.InFind.{cond-more, with-none, ended-conds}
+use Rattle.data_layout.proofs.InFind.{cond-more, ended-conds}
 use Rattle.data_layout.proofs.item.Layout.among_conds.Goals as goal
 
 pub loop-cond-preserved : goal.loop-cond-preserved

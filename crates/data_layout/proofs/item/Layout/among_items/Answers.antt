@@ -1,6 +1,6 @@
-use Rattle.std.proofs.Common.{◌∙◌, ap, sym, arith, length, List}
+use Rattle.std.proofs.Common.{◌∙◌, ap, sym, arith, length}
 use Rattle.data_layout.specs.Find as spec
-use Rattle.data_layout.proofs.InFind.{item-more, with-none, ended-items}
+use Rattle.data_layout.proofs.InFind.{item-more, ended-items}
 use Rattle.data_layout.proofs.item.Layout.among_items.Goals as goal
 
 pub loop-item-preserved : goal.loop-item-preserved
