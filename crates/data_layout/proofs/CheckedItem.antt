@@ -34,35 +34,35 @@ module _ (words : List Word) (setting : Setting) (names : Known) (objects : Obje
   whole-is of_parts all parts is = is ∙ ap (λ (n : ℕ). bytes_of e n) (parts ∙ ap (λ (k : ℕ). total (within k (forest inner))) at)
 
   after-is : (of_parts one all : ℕ) → of_parts ≡ total (within r (forest inner)) → one ≡ once e.picture e of_parts → all ≡ bytes_of e of_parts
-    → faults_after words setting objects e one all ≡ after
+      → faults_after words setting objects e one all ≡ after
   after-is of_parts one all parts single is =
       ap (λ (n : ℕ). faults_after words setting objects e n all) (single ∙ ap (λ (n : ℕ). once e.picture e n) (parts ∙ ap (λ (k : ℕ). total (within k (forest inner))) at))
       ∙ ap (λ (n : ℕ). faults_after words setting objects e (size e (parts_of e inner)) n) (whole-is of_parts all parts is)
 
   pub fails-before : (items : Bool) (fault : LayoutFault) → items ≡ holds_items (within r (forest inner)) → IsFirst fault (faults_before words setting names objects e items)
-    → IsFirst fault (faults_of_item words setting names objects e (parts_of e inner))
+      → IsFirst fault (faults_of_item words setting names objects e (parts_of e inner))
   fails-before items fault is h =
       IsFirst-front before (under ++ after) fault (subst (λ (fs : List LayoutFault). IsFirst fault fs) (before-is items is) h)
 
   pub fails-under : (items : Bool) (s : Setting) (n : Known) (fault : LayoutFault) → items ≡ holds_items (within r (forest inner)) → s ≡ setting_in setting e → n ≡ no_names
-    → faults_before words setting names objects e items ≡ [] → IsFirst fault (faults words s n no_objects (within r (forest inner)))
-    → IsFirst fault (faults_of_item words setting names objects e (parts_of e inner))
+      → faults_before words setting names objects e items ≡ [] → IsFirst fault (faults words s n no_objects (within r (forest inner)))
+      → IsFirst fault (faults_of_item words setting names objects e (parts_of e inner))
   fails-under items s n fault is es en none h =
       IsFirst-rest before (under ++ after) fault (sym (before-is items is) ∙ none)
       (IsFirst-front under after fault (subst (λ (fs : List LayoutFault). IsFirst fault fs) (under-is s n es en) h))
 
   pub fails-after : (items : Bool) (s : Setting) (n : Known) (of_parts one all : ℕ) (fault : LayoutFault) → items ≡ holds_items (within r (forest inner)) → s ≡ setting_in setting e → n ≡ no_names
-    → of_parts ≡ total (within r (forest inner)) → one ≡ once e.picture e of_parts → all ≡ bytes_of e of_parts
-    → faults_before words setting names objects e items ≡ [] → faults words s n no_objects (within r (forest inner)) ≡ [] → IsFirst fault (faults_after words setting objects e one all)
-    → IsFirst fault (faults_of_item words setting names objects e (parts_of e inner))
+      → of_parts ≡ total (within r (forest inner)) → one ≡ once e.picture e of_parts → all ≡ bytes_of e of_parts
+      → faults_before words setting names objects e items ≡ [] → faults words s n no_objects (within r (forest inner)) ≡ [] → IsFirst fault (faults_after words setting objects e one all)
+      → IsFirst fault (faults_of_item words setting names objects e (parts_of e inner))
   fails-after items s n of_parts one all fault is es en parts single bytes none none_under h =
       IsFirst-rest before (under ++ after) fault (sym (before-is items is) ∙ none)
       (IsFirst-rest under after fault (sym (under-is s n es en) ∙ none_under) (subst (λ (fs : List LayoutFault). IsFirst fault fs) (after-is of_parts one all parts single bytes) h))
 
   pub has-none : (items : Bool) (s : Setting) (n : Known) (of_parts one all : ℕ) → items ≡ holds_items (within r (forest inner)) → s ≡ setting_in setting e → n ≡ no_names
-    → of_parts ≡ total (within r (forest inner)) → one ≡ once e.picture e of_parts → all ≡ bytes_of e of_parts
-    → faults_before words setting names objects e items ≡ [] → faults words s n no_objects (within r (forest inner)) ≡ [] → faults_after words setting objects e one all ≡ []
-    → faults_of_item words setting names objects e (parts_of e inner) ≡ []
+      → of_parts ≡ total (within r (forest inner)) → one ≡ once e.picture e of_parts → all ≡ bytes_of e of_parts
+      → faults_before words setting names objects e items ≡ [] → faults words s n no_objects (within r (forest inner)) ≡ [] → faults_after words setting objects e one all ≡ []
+      → faults_of_item words setting names objects e (parts_of e inner) ≡ []
   has-none items s n of_parts one all is es en parts single bytes none none_under none_after =
       none-both before (under ++ after) (sym (before-is items is) ∙ none)
       (none-both under after (sym (under-is s n es en) ∙ none_under) (sym (after-is of_parts one all parts single bytes) ∙ none_after))

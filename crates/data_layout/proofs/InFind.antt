@@ -56,14 +56,14 @@ with-none (found.Named k) = refl
 with-none found.Twice = refl
 
 pub item-more : (fits : Item → Bool) (x y z : Found) (n : ℕ) (rest more : List Item) (item : Item) → rest ≡ item ∷ more → y ≡ with x z → z ≡ (if fits item then found.Item n else found.Unknown)
-  → with y (among_items fits (n + 1) more) ≡ with x (among_items fits n rest)
+    → with y (among_items fits (n + 1) more) ≡ with x (among_items fits n rest)
 item-more fits x y z n rest more item splits is one =
     ap (λ (f : Found). with f (among_items fits (n + 1) more)) (is ∙ ap (λ (f : Found). with x f) one)
     ∙ with-with x (if fits item then found.Item n else found.Unknown) (among_items fits (n + 1) more)
     ∙ ap (λ (l : List Item). with x (among_items fits n l)) (sym splits)
 
 pub cond-more : (fits : CondItem → Bool) (x y z : Found) (n : ℕ) (rest more : List CondItem) (one_more : CondItem) → rest ≡ one_more ∷ more → y ≡ with x z → z ≡ (if fits one_more then found.Named n else found.Unknown)
-  → with y (among_conds fits (n + 1) more) ≡ with x (among_conds fits n rest)
+    → with y (among_conds fits (n + 1) more) ≡ with x (among_conds fits n rest)
 cond-more fits x y z n rest more one_more splits is one =
     ap (λ (f : Found). with f (among_conds fits (n + 1) more)) (is ∙ ap (λ (f : Found). with x f) one)
     ∙ with-with x (if fits one_more then found.Named n else found.Unknown) (among_conds fits (n + 1) more)
@@ -74,8 +74,8 @@ no-holder zero items areas id qualifiers = refl
 no-holder (suc n) items areas id qualifiers = refl
 
 pub outwards : (n m : ℕ) (items : List Item) (areas : List Area) (id : AreaId) (outer onward : Option ℕ) (left further : List (List ℕ)) (k : ℕ) → n ≡ m + 1 → outer ≡ Some k
-  → further ≡ left_after (group_name (slice_get items k)) left → onward ≡ holder_of (slice_get items k)
-  → is_in m items areas id onward further ≡ is_in n items areas id outer left
+    → further ≡ left_after (group_name (slice_get items k)) left → onward ≡ holder_of (slice_get items k)
+    → is_in m items areas id onward further ≡ is_in n items areas id outer left
 outwards n m items areas id outer onward left further k is here lefts outs =
     let step : n ≡ suc m = omega (arith, is) in
     ap (λ (o : Option ℕ). is_in m items areas id o further) outs

@@ -78,9 +78,9 @@ faults words setting names objects (node e parts others) =
     if is_named e
     then faults_of_name words setting names e ++ faults words setting (with_name names e.name) objects others
     else (faults_before words setting names objects e (holds_items parts)
-        ++ (faults words (setting_in setting e) no_names no_objects parts
-        ++ faults_after words setting objects e (size e parts) (whole e parts)))
-        ++ faults words setting (with_name names e.name) (objects_after objects e (whole e parts)) others
+    ++ (faults words (setting_in setting e) no_names no_objects parts
+    ++ faults_after words setting objects e (size e parts) (whole e parts)))
+    ++ faults words setting (with_name names e.name) (objects_after objects e (whole e parts)) others
 
 -- the faults of an item and of the entries under it
 abbrev pub faults_of_item : List Word → Setting → Known → Objects → Entry → Forest → List LayoutFault

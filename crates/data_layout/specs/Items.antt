@@ -69,8 +69,8 @@ items around number next object nothing = []
 items around number next object (node e parts others) =
     if is_named e then items around number next object others
     else item_of around (start_of around e next object) e (size e parts) ∷
-        (items (inside around number e (size e parts)) (number + 1) (start_of around e next object) (start_of around e next object) parts
-        ++ items around (number + (1 + item_count parts)) (next + adds e (total parts)) (start_of around e next object) others)
+    (items (inside around number e (size e parts)) (number + 1) (start_of around e next object) (start_of around e next object) parts
+    ++ items around (number + (1 + item_count parts)) (next + adds e (total parts)) (start_of around e next object) others)
 
 abbrev pub name_or_none : Option (List ℕ) → List ℕ
 name_or_none None = []

@@ -89,8 +89,8 @@ storage_items owners number nothing = []
 storage_items owners number (node e parts others) =
     if is_named e then storage_items owners number others
     else item_of (own_area (area_for owners e)) 0 e (size e parts) ∷
-        (items (inside (own_area (area_for owners e)) number e (size e parts)) (number + 1) 0 0 parts
-        ++ storage_items (owners_after owners e) (number + (1 + item_count parts)) others)
+    (items (inside (own_area (area_for owners e)) number e (size e parts)) (number + 1) 0 0 parts
+    ++ storage_items (owners_after owners e) (number + (1 + item_count parts)) others)
 
 abbrev pub storage_area : AreaId → Entry → Forest → Area
 storage_area id e parts = record { id = id; name = e.name; file = false; length = whole e parts }

@@ -10,7 +10,9 @@ ghost use Rattle.data_layout.specs.Faults as spec;
 use crate::fault::LayoutFault;
 use crate::measure::{bytes_of, measure, once};
 use crate::names::Names;
-use crate::rules::{Objects, Setting, contains_right, fits_area, holds_items, keeps_lengths, keeps_rules};
+use crate::rules::{
+    Objects, Setting, contains_right, fits_area, holds_items, keeps_lengths, keeps_rules,
+};
 use crate::sections::{first_file, greatest};
 use crate::tree::{NAMED, first_within, rank};
 use cobol_syntax::{Entry, FileEntry, Program};
@@ -62,7 +64,10 @@ fn check_name(
 ) -> Result<(), LayoutFault>
     ensures { spec.Tells result (spec.faults_of_name words.now setting (named names.now) entry.now) }
 {
-    unless(!setting.top, LayoutFault::LayoutShape(origin_at(words, entry.at)))?;
+    unless(
+        !setting.top,
+        LayoutFault::LayoutShape(origin_at(words, entry.at)),
+    )?;
     once_named(words, names, &entry.name, entry.at)?;
     Ok(())
 }
@@ -97,7 +102,10 @@ fn check_after(
 {
     let kept = keeps_lengths(objects, entry, one, all);
     unless(kept, LayoutFault::LayoutShape(origin_at(words, entry.at)))?;
-    unless(fits_area(setting, all), LayoutFault::AreaFull(origin_at(words, entry.at)))?;
+    unless(
+        fits_area(setting, all),
+        LayoutFault::AreaFull(origin_at(words, entry.at)),
+    )?;
     Ok(())
 }
 
@@ -171,7 +179,14 @@ fn check_file(
     ensures tells { spec.Tells result (spec.faults_of_file words.now (named names.old) file.now) }
     ensures names { OnOk result (named names.new ≡ spec.names_after (named names.old) (tops file.now.entries)) }
 {
-    check_parts(alloc, words, Setting::section(true), names, file.entries.items(), 0)?;
+    check_parts(
+        alloc,
+        words,
+        Setting::section(true),
+        names,
+        file.entries.items(),
+        0,
+    )?;
     let most = greatest(file.entries.items())?;
     unless(
         contains_right(&file.contains, most),

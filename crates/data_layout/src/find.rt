@@ -219,7 +219,13 @@ impl Layout {
     {
         if has_name(&item.name, name) {
             let items = self.items.items();
-            is_in(items, self.areas.items(), item.span.area, item.parent, qualifiers)
+            is_in(
+                items,
+                self.areas.items(),
+                item.span.area,
+                item.parent,
+                qualifiers,
+            )
         } else {
             false
         }

@@ -225,7 +225,9 @@ pub(crate) fn lay_item<'a>(
     let (of_parts, _) = measure(inner, rank(entry.level))?;
     let bytes = narrow(once(entry, of_parts)?)?;
     let number = number_of(sheet.items.len())?;
-    sheet.items.push(item_of(alloc, around, start, entry, bytes)?)?;
+    sheet
+        .items
+        .push(item_of(alloc, around, start, entry, bytes)?)?;
     let within = inside(alloc, around, number, entry, bytes)?;
     let rest = lay_parts(alloc, sheet, &within, start, inner, rank(entry.level))?;
     let added = adds(entry, of_parts)?;

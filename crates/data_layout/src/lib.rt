@@ -13,6 +13,8 @@ mod number;
 mod portfolio;
 mod rules;
 mod sections;
+#[cfg(test)]
+mod tests;
 mod tree;
 mod values;
 mod whole;
@@ -22,6 +24,3 @@ pub use find::Found;
 pub use item::{Area, Class, CondItem, Item, Layout, Step};
 pub use portfolio::{FileArea, FileUse, ItemRef, Portfolio};
 pub use whole::lay_out;
-
-#[cfg(test)]
-mod tests;

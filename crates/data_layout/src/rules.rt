@@ -11,7 +11,9 @@ use std::alloc::Global;
 use y2k_base::{Bytes, Memory, PicClass, Picture, Twin};
 
 const MOST_BYTES: u128 = 65_535;
+
 const MOST_OCCURRENCES: u32 = 65_535;
+
 const ZERO: u8 = b'0';
 
 /// What lies round an entry: nothing, a 77, the file section, a redefinition, an item with a VALUE, and how
@@ -103,10 +105,7 @@ fn same(first: bool, second: bool) -> bool
 fn has_picture(entry: &Entry, items: bool) -> bool
     ensures { result ≡ spec.has_picture entry.now items }
 {
-    same(
-        entry.picture.is_some(),
-        entry.level == SINGLE || !items,
-    )
+    same(entry.picture.is_some(), entry.level == SINGLE || !items)
 }
 
 fn same_name(own: &Option<Bytes>, name: &Bytes) -> bool
@@ -320,11 +319,13 @@ pub(crate) fn keeps_rules(
     ensures { IfOk result (λ kept. kept ≡ spec.keeps_rules setting objects.now entry.now items) }
 {
     let value = value_right(setting, entry)?;
-    Ok(has_level(setting, entry)
-        && (has_picture(entry, items)
-            && (redefines_right(setting, objects, entry)
-                && (occurs_right(setting, entry.level, entry.occurs)
-                    && (value && (usage_right(entry) && sign_right(entry)))))))
+    Ok(
+        has_level(setting, entry)
+            && (has_picture(entry, items)
+                && (redefines_right(setting, objects, entry)
+                    && (occurs_right(setting, entry.level, entry.occurs)
+                        && (value && (usage_right(entry) && sign_right(entry)))))),
+    )
 }
 
 fn fits_object(object: &Option<Object>, bytes: u128) -> bool

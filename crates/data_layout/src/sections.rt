@@ -99,12 +99,7 @@ fn file_area(alloc: Global, id: AreaId, file: &FileEntry) -> Result<Area, Memory
 }
 
 /// Lays the records of a file.
-fn lay_file(
-    alloc: Global,
-    sheet: &mut Sheet,
-    id: AreaId,
-    file: &FileEntry,
-) -> Result<(), Memory>
+fn lay_file(alloc: Global, sheet: &mut Sheet, id: AreaId, file: &FileEntry) -> Result<(), Memory>
     ensures items { IfOk result (λ _. sheet.new.items ≡ sheet.old.items ++ items.items (spec.record_area id) (length sheet.old.items) 0 0 (spec.tops file.now.entries)) }
     ensures conds { IfOk result (λ _. sheet.new.conds ≡ sheet.old.conds ++ items.conds None (length sheet.old.items) (spec.tops file.now.entries)) }
 {
@@ -277,7 +272,13 @@ pub(crate) fn lay_program(alloc: Global, program: &Program, first: AreaId) -> Re
         common: next,
         single: next,
     };
-    lay_storage(alloc, &mut sheet, &mut areas, owners, program.storage.items())?;
+    lay_storage(
+        alloc,
+        &mut sheet,
+        &mut areas,
+        owners,
+        program.storage.items(),
+    )?;
     let layout = small(sheet.into_layout(areas))?;
     Ok(layout)
 }

@@ -126,11 +126,7 @@ fn add_word(alloc: Global, words: &mut List<Word>) -> Result<u32, Memory> {
 }
 
 /// The entries of a text, parted by bars.
-fn entries_of(
-    alloc: Global,
-    text: &[u8],
-    words: &mut List<Word>,
-) -> Result<List<Entry>, Memory> {
+fn entries_of(alloc: Global, text: &[u8], words: &mut List<Word>) -> Result<List<Entry>, Memory> {
     let mut entries = List::new(alloc);
     for part in text.split(|byte| *byte == b'|') {
         if !part.is_empty() {
@@ -287,7 +283,11 @@ fn records_of_a_file_share_its_area(rt: HostRuntime) -> Result<(), Fail> {
 #[test]
 fn record_contains_the_longest_record(rt: HostRuntime) -> Result<(), Fail> {
     for (contains, records, want) in [
-        (b"3".as_slice(), b"01 R PX(2)|01 S PX(3)".as_slice(), b"R@0:0+2 S@0:0+3 ".as_slice()),
+        (
+            b"3".as_slice(),
+            b"01 R PX(2)|01 S PX(3)".as_slice(),
+            b"R@0:0+2 S@0:0+3 ".as_slice(),
+        ),
         (b"2", b"01 R PX(2)|01 S PX(3)", b"shape 0"),
         (b"2", b"01 R PX(2)|01 S PX(3)|01 R PX", b"twice 3"),
     ] {
@@ -312,8 +312,14 @@ fn the_first_broken_rule_is_named(rt: HostRuntime) -> Result<(), Fail> {
         (b"01 A|05 B PX|05 C PX|05 D RB PX", b"shape 3"),
         (b"01 A|05 B PX|10 C RB PX", b"shape 1"),
         (b"01 A|05 B PX(2)|05 C RB PX(3)", b"shape 2"),
-        (b"01 A|05 B O2 PX(2)|05 C RB PX(4)", b"A@0:0+4 B@0:0+2[2*2] C@0:0+4 "),
-        (b"01 A|05 B PX|05 - RB PX|05 D RB PX", b"A@0:0+1 B@0:0+1 -@0:0+1 D@0:0+1 "),
+        (
+            b"01 A|05 B O2 PX(2)|05 C RB PX(4)",
+            b"A@0:0+4 B@0:0+2[2*2] C@0:0+4 ",
+        ),
+        (
+            b"01 A|05 B PX|05 - RB PX|05 D RB PX",
+            b"A@0:0+1 B@0:0+1 -@0:0+1 D@0:0+1 ",
+        ),
         (b"01 A O2 PX", b"shape 0"),
         (b"77 A O2 PX", b"shape 0"),
         (b"01 A|05 B O0 PX", b"shape 1"),
@@ -352,11 +358,17 @@ fn faults_go_by_entries_and_lengths_come_after(rt: HostRuntime) -> Result<(), Fa
         (b"01 A PX|01 A PX".as_slice(), b"twice 1".as_slice()),
         (b"01 A PX|77 A PX", b"twice 1"),
         (b"01 A|05 B PX|05 B PX", b"twice 2"),
-        (b"01 A|05 B|10 C PX|05 D|10 C PX", b"A@0:0+2 B@0:0+1 C@0:0+1 D@0:1+1 C@0:1+1 "),
+        (
+            b"01 A|05 B|10 C PX|05 D|10 C PX",
+            b"A@0:0+2 B@0:0+1 C@0:0+1 D@0:1+1 C@0:1+1 ",
+        ),
         (b"01 A|05 - PX|05 - PX", b"A@0:0+2 -@0:0+1 -@0:1+1 "),
         (b"01 A|88 B|05 B PX", b"twice 2"),
         (b"01 A PX|88 B|88 B", b"twice 2"),
-        (b"01 A|05 B PX|88 X|05 C PX|88 X", b"A@0:0+2 B@0:0+1 C@0:1+1 "),
+        (
+            b"01 A|05 B PX|88 X|05 C PX|88 X",
+            b"A@0:0+2 B@0:0+1 C@0:1+1 ",
+        ),
         (b"01 A PX|01 A O2 PX", b"shape 1"),
         (b"01 A|05 B PX(65536)|05 B PX", b"twice 2"),
         (b"01 A|05 B PX(65535)|05 C O0 PX", b"shape 2"),

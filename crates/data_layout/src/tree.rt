@@ -4,6 +4,7 @@ ghost use Rattle.data_layout.specs.Tree as tree;
 use cobol_syntax::Entry;
 
 pub(crate) const SINGLE: u8 = 77;
+
 pub(crate) const NAMED: u8 = 88;
 
 /// How deep a level stands.

@@ -47,8 +47,7 @@ check_parts-loop-entry-preserved-then-entry-eq-NAMED t c =
     let rest = c.loop-entry.rest.now in
     let inner = c.in-Some.inner.now in
     let names = named c.loop-entry.names in
-    let onward = named c.add.new.self in
-    (
+    let onward = named c.add.new.self in (
       beyond-after-named r rest inner e b h ∙ c.loop-entry.invariant.0,
       omega (arith, b.shorter, c.loop-entry.invariant.1),
       past-name c.args.words.now c.args.setting names onward c.loop-entry.objects r rest inner e b h c.in_ok-check_name.ensures c.in_ok-add.ensures ∙ c.loop-entry.invariant.2,
@@ -84,8 +83,7 @@ check_parts-loop-entry-preserved t c =
     let after = c.in_ok-all.after.now in
     let goes = c.in_ok-all.ensures.rest in
     let names = named c.loop-entry.names in
-    let onward = named c.add-else-entry-eq-NAMED.new.self in
-    (
+    let onward = named c.add-else-entry-eq-NAMED.new.self in (
       beyond-after r rest inner after e b goes ∙ c.loop-entry.invariant.0,
       omega (arith, b.shorter, goes.shorter, c.loop-entry.invariant.1),
       past-item c.args.words.now c.args.setting names onward c.loop-entry.objects c.in_ok-objects.objects c.in_ok-all.all r rest inner after e b h goes c.in_ok-all.ensures.tells c.in_ok-add-2.ensures c.in_ok-objects.ensures c.in_ok-all.ensures.bytes ∙ c.loop-entry.invariant.2,

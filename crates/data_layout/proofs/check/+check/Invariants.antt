@@ -16,7 +16,7 @@ invariant-check_parts-loop-entry l =
     (beyond l.around (forest l.rest) ≡ beyond l.around (forest l.entries))
     × (length l.rest ≤ length l.entries)
     × (spec.faults l.words l.setting (named l.names) l.objects (within l.around (forest l.rest))
-        ≡ spec.faults l.words l.setting (named l.initial.names) rules.no_objects (within l.around (forest l.entries)))
+    ≡ spec.faults l.words l.setting (named l.initial.names) rules.no_objects (within l.around (forest l.entries)))
     × (spec.names_after (named l.names) (within l.around (forest l.rest)) ≡ spec.names_after (named l.initial.names) (within l.around (forest l.entries)))
 
 abbrev pub decreases-check_parts-loop-entry : goal.decreases-check_parts-loop-entry

@@ -16,8 +16,7 @@ lay_parts-loop-entry-preserved-then-entry-eq-NAMED t c =
     let r = c.args.around_rank in
     let rest = c.loop-entry.rest.now in
     let inner = c.in-Some.inner.now in
-    let n = length c.loop-entry.sheet.items in
-    (
+    let n = length c.loop-entry.sheet.items in (
       beyond-after-named r rest inner e b h ∙ c.loop-entry.invariant.0,
       omega (arith, b.shorter, c.loop-entry.invariant.1),
       ap (λ (l : List Item). c.loop-entry.sheet.items ++ l) (sym (named-items around n c.loop-entry.next c.loop-entry.object r rest inner e b h)) ∙ c.loop-entry.invariant.2,
@@ -35,8 +34,7 @@ lay_parts-loop-entry-preserved t c =
     let rest = c.loop-entry.rest.now in
     let inner = c.in-Some.inner.now in
     let after = c.in_ok-added.after.now in
-    let goes = c.in_ok-added.ensures.rest in
-    (
+    let goes = c.in_ok-added.ensures.rest in (
       beyond-after r rest inner after e b goes ∙ c.loop-entry.invariant.0,
       omega (arith, b.shorter, goes.shorter, c.loop-entry.invariant.1),
       step-items around c.loop-entry.next c.loop-entry.object c.start_of-object.result c.in_ok-next.next r rest inner after e c.loop-entry.sheet.items c.lay_item.new.sheet.items b h goes

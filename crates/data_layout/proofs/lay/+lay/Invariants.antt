@@ -14,9 +14,9 @@ invariant-lay_parts-loop-entry l =
     (beyond l.around_rank (forest l.rest) ≡ beyond l.around_rank (forest l.entries))
     × (length l.rest ≤ length l.entries)
     × (l.sheet.items ++ spec.items l.around (length l.sheet.items) l.next l.object (within l.around_rank (forest l.rest))
-        ≡ l.initial.sheet.items ++ spec.items l.around (length l.initial.sheet.items) l.start l.start (within l.around_rank (forest l.entries)))
+    ≡ l.initial.sheet.items ++ spec.items l.around (length l.initial.sheet.items) l.start l.start (within l.around_rank (forest l.entries)))
     × (l.sheet.conds ++ spec.conds l.around.parent (length l.sheet.items) (within l.around_rank (forest l.rest))
-        ≡ l.initial.sheet.conds ++ spec.conds l.around.parent (length l.initial.sheet.items) (within l.around_rank (forest l.entries)))
+    ≡ l.initial.sheet.conds ++ spec.conds l.around.parent (length l.initial.sheet.items) (within l.around_rank (forest l.entries)))
 
 abbrev pub decreases-lay_parts-loop-entry : goal.decreases-lay_parts-loop-entry
 decreases-lay_parts-loop-entry l = length l.rest

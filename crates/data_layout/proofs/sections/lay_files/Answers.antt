@@ -14,8 +14,7 @@ loop-file-preserved c =
     let xs = c.loop-file.sheet.items in
     let zs = c.lay_file.new.sheet.items in
     let laid = c.in_ok-lay_file.ensures.items in
-    let count = count-of (record_area id) (tops file.entries) xs zs laid in
-    (
+    let count = count-of (record_area id) (tops file.entries) xs zs laid in (
       step-files id next file rest more xs zs splits c.in_ok-id.ensures laid ∙ c.loop-file.invariant.0,
       step-file_conds (length xs) (length zs) file rest more c.loop-file.sheet.conds c.lay_file.new.sheet.conds splits count c.in_ok-lay_file.ensures.conds ∙ c.loop-file.invariant.1,
       step-file_areas id next c.in_ok-file_area.field-0 file rest more c.loop-file.areas c.push.new.self splits c.in_ok-id.ensures c.in_ok-file_area.ensures c.in_ok-push.ensures.ok ∙ c.loop-file.invariant.2,

@@ -16,8 +16,7 @@ loop-entry-preserved-then-entry-eq-NAMED c =
     let h = c.if-entry-eq-NAMED.true in
     let rest = c.loop-entry.rest.now in
     let inner = c.in-Some.inner.now in
-    let n = length c.loop-entry.sheet.items in
-    (
+    let n = length c.loop-entry.sheet.items in (
       ap (λ (l : List Item). c.loop-entry.sheet.items ++ l) (sym (named-storage c.loop-entry.owners n rest inner e b h)) ∙ c.loop-entry.invariant.0,
       pushed c.loop-entry.sheet.conds c.push.new.self (items.conds None n (tops inner)) _ _ c.in_ok-push.ensures.ok c.in_ok-cond_of.ensures
           ∙ ap (λ (l : List CondItem). c.loop-entry.sheet.conds ++ l) (sym (named-conds None n 0 rest inner e b h)) ∙ c.loop-entry.invariant.1,
@@ -37,8 +36,7 @@ loop-entry-preserved c =
     let goes = c.in_ok-after.ensures.rest in
     let xs = c.loop-entry.sheet.items in
     let zs = c.lay_item.new.sheet.items in
-    let laid = c.in_ok-after.ensures.items in
-    (
+    let laid = c.in_ok-after.ensures.items in (
       step-storage owners onward c.own_area-around.result rest inner after e xs zs b h goes
           (c.own_area-around.ensures ∙ ap own_area c.area_for.ensures) c.in_ok-owners.ensures laid ∙ c.loop-entry.invariant.0,
       step-conds None (length xs) (length zs) 0 rest inner after e c.loop-entry.sheet.conds c.lay_item.new.sheet.conds b h goes

@@ -5,8 +5,7 @@ use Rattle.data_layout.proofs.item.Layout.among_conds.Goals as goal
 
 pub loop-cond-preserved : goal.loop-cond-preserved
 loop-cond-preserved c =
-    let splits = c.in-Some.ensures.some in
-    (
+    let splits = c.in-Some.ensures.some in (
       cond-more (spec.cond_fits c.args.self.now c.args.name.now c.args.qualifiers.now) c.loop-cond.found c.with-found.result c.cond_if-one.result c.loop-cond.number c.loop-cond.rest.now c.in-Some.more.now c.in-Some.cond.now splits c.with-found.ensures c.cond_if-one.ensures ∙ c.loop-cond.invariant.0,
       omega (arith, ap length splits, c.loop-cond.invariant.1),
     )
