@@ -1,0 +1,7 @@
+pub mod Checked
+pub mod CheckedItem
+pub mod InFind
+pub mod InNames
+pub mod InSections
+pub mod Laid
+pub mod Telling

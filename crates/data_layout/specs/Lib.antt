@@ -1,0 +1,11 @@
+pub mod Faults
+pub mod Find
+pub mod Items
+pub mod Names
+pub mod Number
+pub mod Occurrences
+pub mod Rules
+pub mod Sections
+pub mod Sizes
+pub mod Tree
+pub mod Values
