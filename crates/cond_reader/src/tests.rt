@@ -182,6 +182,7 @@ fn read_text(alloc: Global, text: &[u8]) -> Result<Bytes, Memory> {
 }
 
 /// The condition, with its form in brackets, and the positions of the words.
+#[cycle(show_condition)]
 fn show_condition(alloc: Global, condition: &Condition, out: &mut Bytes) -> Result<(), Memory> {
     out.push(b'[')?;
     show_form(alloc, &condition.form, out)?;
@@ -197,6 +198,7 @@ fn mark_of(rel: Rel) -> u8 {
     }
 }
 
+#[cycle(show_condition)]
 fn show_form(alloc: Global, form: &CondForm, out: &mut Bytes) -> Result<(), Memory> {
     match form {
         CondForm::Relation { left, rel, right } => {
