@@ -15,4 +15,5 @@ mod text;
 
 pub use read::read_expr;
 pub use symbol::{Symbol, same_symbol};
+pub use table::value_of;
 pub use text::{CondNames, Found, Reader};

@@ -1,0 +1,11 @@
+pub mod Arithmetic
+pub mod Classes
+pub mod Files
+pub mod Keywords
+pub mod Moves
+pub mod Performs
+pub mod Reading
+pub mod Simple
+pub mod Source
+pub mod Trees
+pub mod View
