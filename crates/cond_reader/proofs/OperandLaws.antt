@@ -85,13 +85,13 @@ module _ (t : Text) (level : ℕ) where
       inl (operand-by i false false false (sees-not t s.Name i (figure-not i byte s.Name refl some)) (sees-not t s.Number i (figure-not i byte s.Number refl some))
       (sees-not t s.Literal i (figure-not i byte s.Literal refl some)) ∙ ap (figure_operand t i) some ∙ ap (λ k. Some (o.Figure byte i, k)) (sym next))
 
-  operand-moves : (i j : ℕ) (x : Operand) → IsOperand t level i j x → (i < j) × (i < length t.words)
+  operand-moves : (i j : ℕ) (x : Operand) → IsOperand t level i j x → (i < j) × (i < length t.kinds)
   operand-moves i j _ (of_place {p = p} w) = (place-agrees t level).moves i j p w
   operand-moves i j _ (of_number word value) = (omega (arith, word.next_is), within t s.Number i word.kind_is (λ same. cc))
   operand-moves i j _ (of_literal word) = (omega (arith, word.next_is), within t s.Literal i word.kind_is (λ same. cc))
   operand-moves i j _ (of_figure {byte = byte} some next) = (omega (arith, next), within t (symbol t i) i refl (figure-not i byte s.End refl some))
 
-  operand-agrees : Agrees (length t.words) (operand_at t level) (IsOperand t level) (PlaceGoes t)
+  pub operand-agrees : Agrees (length t.kinds) (operand_at t level) (IsOperand t level) (PlaceGoes t)
   operand-agrees = record {
     sound = λ i j x h. operand-cases i j x _ _ _ refl refl refl (sym (operand-by i _ _ _ refl refl refl) ∙ h);
     best = operand-best;
@@ -112,7 +112,7 @@ goes-not-close : (t : Text) (i : ℕ) → PlaceGoes t i → symbol t i ≡ s.Clo
 goes-not-close t i (inl is) at = let both : s.Of ≡ s.Close = sym is ∙ at in cc
 goes-not-close t i (inr is) at = let both : s.Open ≡ s.Close = sym is ∙ at in cc
 
-pub exprs-agree : (t : Text) (level : ℕ) → Agrees (length t.words) (expr t level) (IsExpr t (IsOperand t) level) (GoesOn t (PlaceGoes t))
+pub exprs-agree : (t : Text) (level : ℕ) → Agrees (length t.kinds) (expr t level) (IsExpr t (IsOperand t) level) (GoesOn t (PlaceGoes t))
 exprs-agree t level =
     expr-agrees t (IsOperand t) (λ _. PlaceGoes t) (operand-agrees t)
     (λ l i j x w. (

@@ -82,7 +82,7 @@ module _ (t : Text) where
     next_factor i = after_operator factor i (product_operator (symbol t i))
 
     unfoldable pub more_factors : Expr → ℕ → Expr × ℕ
-    more_factors = chain (λ _. next_factor) joined (length t.words)
+    more_factors = chain (λ _. next_factor) joined (length t.kinds)
 
     unfoldable pub term : Reader Expr
     term i = and_then (factor i) (λ first j. Some (more_factors first j))
@@ -91,7 +91,7 @@ module _ (t : Text) where
     next_term i = after_operator term i (sum_operator (symbol t i))
 
     unfoldable pub more_terms : Expr → ℕ → Expr × ℕ
-    more_terms = chain (λ _. next_term) joined (length t.words)
+    more_terms = chain (λ _. next_term) joined (length t.kinds)
 
     unfoldable pub sum : Reader Expr
     sum i = and_then (term i) (λ first j. Some (more_terms first j))

@@ -4,6 +4,7 @@ pub mod Conds
 pub mod ExprGrammar
 pub mod Exprs
 pub mod Grammar
+pub mod Kinds
 pub mod Longest
 pub mod Places
 pub mod Reads

@@ -5,6 +5,7 @@
 mod chars;
 mod cond;
 mod expr;
+mod kind;
 mod place;
 mod read;
 mod symbol;
@@ -13,7 +14,8 @@ mod table;
 mod tests;
 mod text;
 
+pub use kind::{CondNames, Kind, kinds_of};
 pub use read::read_expr;
 pub use symbol::{Symbol, same_symbol};
 pub use table::value_of;
-pub use text::{CondNames, Found, Reader};
+pub use text::{Found, Reader};

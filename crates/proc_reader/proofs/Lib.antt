@@ -1,2 +1,4 @@
+pub mod Levels
+pub mod Repeats
 pub mod Tables
 pub mod TreeLaws

@@ -1,10 +1,13 @@
 pub mod Arithmetic
 pub mod Classes
+pub mod Evaluates
 pub mod Files
 pub mod Keywords
 pub mod Moves
+pub mod Nested
 pub mod Performs
 pub mod Reading
+pub mod Sentences
 pub mod Simple
 pub mod Source
 pub mod Trees

@@ -6,9 +6,11 @@
 #![tactic(auto)]
 
 mod arithmetic;
+mod evaluate;
 mod files;
 mod keyword;
 mod moves;
+mod nested;
 mod perform;
 mod sentence;
 mod simple;
