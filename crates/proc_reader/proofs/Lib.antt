@@ -1,4 +1,10 @@
+pub mod Exact
+pub mod FileLaws
+pub mod HeadLaws
 pub mod Levels
+pub mod PerformLaws
 pub mod Repeats
+pub mod Steps
 pub mod Tables
 pub mod TreeLaws
+pub mod WordLaws

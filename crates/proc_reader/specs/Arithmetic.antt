@@ -1,5 +1,5 @@
 -- How ADD, SUBTRACT, MULTIPLY, DIVIDE and COMPUTE are read. All of them are read as Compute.
-use Rattle.std.specs.Prelude.{ℕ, ◌+◌, Bool, ◌&&◌, List, [], ◌∷◌, ◌++◌, length, map, Option, Some, None, if◌then◌else◌}
+use Rattle.std.specs.Prelude.{ℕ, ◌+◌, Bool, true, false, ◌&&◌, List, [], ◌∷◌, ◌++◌, length, map, Option, Some, None, if◌then◌else◌}
 use Rattle.cobol_syntax.specs.declared.place.Place.{Place}
 use Rattle.cobol_syntax.specs.declared.expr.Operand.{Operand}
 use Rattle.cobol_syntax.specs.declared.expr.Operand.TheVariants as operand
@@ -44,26 +44,30 @@ statements program i j first c size =
 unfoldable pub number_after_all : Computing → ℕ → ℕ
 number_after_all c first = first + length c.receivers.before + 1
 
+abbrev pub computing_of : Joining → Expr → Receivers → Computing
+computing_of joining value all = record { joining = joining; value = value; receivers = all; rest = None }
+
+abbrev pub is_single : List Receiver → Bool
+is_single [] = true
+is_single (r ∷ rs) = false
+
 module _ (t : Source) where
   unfoldable pub receiver : ℕ → Reader Receiver
   receiver level i =
       and_then (place t.text level i) (λ p next. Some (record { place = p; rounded = has t k.Rounded next }, skip t k.Rounded next))
 
   unfoldable pub more_receivers : ℕ → Receivers → ℕ → Receivers × ℕ
-  more_receivers level = chain (λ _. receiver level) one_more (length t.text.words)
+  more_receivers level = chain (λ _. receiver level) one_more (length t.text.kinds)
 
   unfoldable pub receivers : ℕ → Reader Receivers
   receivers level i = and_then (receiver level i) (λ last next. Some (more_receivers level (record { before = []; last = last }) next))
 
   unfoldable pub more_summands : ℕ → Expr → ℕ → Expr × ℕ
-  more_summands level = chain (λ _. operand_at t.text level) (joined by.Add) (length t.text.words)
+  more_summands level = chain (λ _. operand_at t.text level) (joined by.Add) (length t.text.kinds)
 
   -- the sum of one or more operands, from the left
   unfoldable pub summed : ℕ → Reader Expr
   summed level i = and_then (operand_at t.text level i) (λ first next. Some (more_summands level (e.One first) next))
-
-  abbrev pub computing_of : Joining → Expr → Receivers → Computing
-  computing_of joining value all = record { joining = joining; value = value; receivers = all; rest = None }
 
   unfoldable pub giving : ℕ → Expr → Reader Computing
   giving level value i =
@@ -95,10 +99,6 @@ module _ (t : Source) where
   unfoldable pub multiplied : ℕ → Reader Computing
   multiplied level i =
       and_then (operand_at t.text level i) (λ x next. word_then (after t k.By next) (λ j. target level by.Multiply (e.One x) j))
-
-  abbrev pub is_single : List Receiver → Bool
-  is_single [] = true
-  is_single (r ∷ rs) = false
 
   -- REMAINDER and its item, where there is one receiver
   unfoldable pub remainder : ℕ → Computing → Reader Computing

@@ -41,7 +41,7 @@ module _ (t : Source) where
   when level x i = if has t k.When i then choice level x (i + 1) else None
 
   unfoldable pub more_whens : ℕ → Option Expr → Condition → ℕ → Condition × ℕ
-  more_whens level x = chain (λ _. when level x) either (length t.text.words)
+  more_whens level x = chain (λ _. when level x) either (length t.text.kinds)
 
   unfoldable pub begins_body : ℕ → Bool
   begins_body i = if has t k.Next i then true else begins t i
@@ -70,7 +70,7 @@ module _ (t : Source) where
   groups_turn level lists x gs s = group_by lists gs s (heads level x s.at)
 
   unfoldable pub more_groups : ℕ → Lists → Option Expr → List Group → Spot → Option (List Group × Spot)
-  more_groups level lists x = repeated (groups_turn level lists x) (length t.text.words + 1)
+  more_groups level lists x = repeated (groups_turn level lists x) (length t.text.kinds + 1)
 
   -- (WHEN OTHER body)?
   unfoldable pub when_other : Lists → Lists

@@ -34,7 +34,7 @@ module _ (t : Source) where
   file_of_mode so_far i = file_by so_far i (mode i)
 
   unfoldable pub more_opened : Opened → ℕ → Opened × ℕ
-  more_opened = chain (λ opened. file_of_mode opened.mode) one_more (length t.text.words)
+  more_opened = chain (λ opened. file_of_mode opened.mode) one_more (length t.text.kinds)
 
   abbrev pub opened_by : ℕ → Option Mode → Option (Opened × ℕ)
   opened_by i None = None
@@ -45,7 +45,7 @@ module _ (t : Source) where
   opened i = opened_by i (mode i)
 
   unfoldable pub more_files : List (List ℕ) → ℕ → List (List ℕ) × ℕ
-  more_files = chain (λ _. name t.text) with_last (length t.text.words)
+  more_files = chain (λ _. name t.text) with_last (length t.text.kinds)
 
   unfoldable pub closed : Reader (List Form)
   closed i =

@@ -1,12 +1,15 @@
 pub mod Arithmetic
+pub mod ArithmeticGrammar
 pub mod Classes
 pub mod Evaluates
 pub mod Files
+pub mod Grammar
 pub mod Keywords
 pub mod Moves
 pub mod Nested
 pub mod Performs
 pub mod Reading
+pub mod SentenceGrammar
 pub mod Sentences
 pub mod Simple
 pub mod Source

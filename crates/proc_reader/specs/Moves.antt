@@ -16,7 +16,7 @@ use Rattle.proc_reader.specs.Reading.{and_then, word_then}
 
 module _ (t : Source) where
   unfoldable pub more_places : ℕ → List Place → ℕ → List Place × ℕ
-  more_places level = chain (λ _. place t.text level) with_last (length t.text.words)
+  more_places level = chain (λ _. place t.text level) with_last (length t.text.kinds)
 
   unfoldable pub moved : ℕ → Reader (List Form)
   moved level i =
@@ -26,7 +26,7 @@ module _ (t : Source) where
       let places = more_places level (first ∷ []) next in Some (map (form.Move from) places.0, places.1))))
 
   unfoldable pub more_operands : ℕ → List Operand → ℕ → List Operand × ℕ
-  more_operands level = chain (λ _. operand_at t.text level) with_last (length t.text.words)
+  more_operands level = chain (λ _. operand_at t.text level) with_last (length t.text.kinds)
 
   unfoldable pub shown : ℕ → Reader Form
   shown level i =

@@ -50,7 +50,7 @@ module _ (t : Source) where
   statements_turn level inside list s = if begins t s.at then longer list (statement_at level inside s) else over
 
   unfoldable pub more_statements : ℕ → Lists → List Statement → Spot → Option (List Statement × Spot)
-  more_statements level inside = repeated (statements_turn level inside) (length t.text.words + 1)
+  more_statements level inside = repeated (statements_turn level inside) (length t.text.kinds + 1)
 
   -- statement+
   unfoldable pub statements_by : ℕ → Lists → Lists

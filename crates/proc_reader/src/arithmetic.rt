@@ -182,7 +182,7 @@ impl<'a> Sentences<'a> {
     ) -> Result<(Receivers, u32), Memory>
         ensures { IfOk result (λ r. r ≡ spec.more_receivers (source_of self.now) level receivers at) }
     {
-        for _turn in 0..self.parts.words.len() {
+        for _turn in 0..self.parts.kinds.len() {
             match self.receiver(level, at)? {
                 None => return Ok((receivers, at)),
                 Some((receiver, next)) => {
@@ -220,7 +220,7 @@ impl<'a> Sentences<'a> {
     ) -> Result<(Expr, u32), Memory>
         ensures { IfOk result (λ r. r ≡ spec.more_summands (source_of self.now) level sum at) }
     {
-        for _turn in 0..self.parts.words.len() {
+        for _turn in 0..self.parts.kinds.len() {
             match self.parts.operand(level, at)? {
                 None => return Ok((sum, at)),
                 Some((operand, next)) => {
@@ -471,7 +471,7 @@ impl<'a> Sentences<'a> {
     /// The word that may end the arithmetic statement that begins with this word.
     #[tactic(auto, unfolding(crate::specs::Arithmetic::end_word))]
     fn end_word(&self, at: u32) -> Keyword
-        ensures { result ≡ spec.end_word (source_of self.now) at }
+        ensures value { result ≡ spec.end_word (source_of self.now) at }
         ensures listed { result ≢ Keyword.Unlisted }
     {
         if self.has(Keyword::Add, at) {

@@ -60,7 +60,7 @@ fn tied(
     groups: List<Group>,
     mut other: List<Statement>,
 ) -> Result<List<Statement>, Memory>
-    ensures { IfOk result (λ list. list ≡ spec.tied program end groups other.entry) }
+    ensures { IfOk result (λ list. list ≡ spec.tied program end groups other) }
 {
     let mut groups = groups.into_vec();
     while let Some(group) = groups.pop() {
@@ -132,7 +132,7 @@ impl<'a> Sentences<'a> {
     ) -> Result<(Condition, u32), Memory>
         ensures { IfOk result (λ r. r ≡ spec.more_whens (source_of self.now) level subject.now test at) }
     {
-        for _turn in 0..self.parts.words.len() {
+        for _turn in 0..self.parts.kinds.len() {
             match self.when(level, subject, at)? {
                 None => return Ok((test, at)),
                 Some((next_test, next)) => {
@@ -214,7 +214,7 @@ impl<'a> Sentences<'a> {
         ensures read { let t = source_of self.now in IfOk result (λ r. spec.more_groups t level (statements t level) subject.now groups spot ≡ Some r) }
         ensures unread { let t = source_of self.now in IfErr result (IsUnread (spec.more_groups t level (statements t level) subject.now groups spot)) }
     {
-        for _turn in 0..self.parts.words.len() + 1 {
+        for _turn in 0..self.parts.kinds.len() + 1 {
             match self.heads(level, subject, spot.at)? {
                 None => return Ok((groups, spot)),
                 Some((test, body_at)) => {

@@ -1,4 +1,4 @@
-ghost use Rattle.std.specs.Prelude.{◌≡◌, Some, map, IfOk, IfErr};
+ghost use Rattle.std.specs.Prelude.{◌≡◌, ◌≢◌, ◌<◌, length, None, Some, map, IfOk, IfErr};
 ghost use Rattle.cobol_syntax.specs.declared.statement.Form.TheVariants as form;
 ghost use Rattle.proc_reader.specs.Files as spec;
 
@@ -64,7 +64,8 @@ impl<'a> Sentences<'a> {
     /// INPUT, OUTPUT or EXTEND.
     #[tactic(auto, unfolding(crate::specs::Files::mode))]
     fn mode(&self, at: u32) -> Option<Mode>
-        ensures { result ≡ spec.mode (source_of self.now) at }
+        ensures value { result ≡ spec.mode (source_of self.now) at }
+        ensures within { result ≢ None → at < length self.now.keywords.now }
     {
         if self.has(Keyword::Input, at) {
             Some(Mode::Input)
@@ -99,7 +100,7 @@ impl<'a> Sentences<'a> {
     fn more_opened(&self, mut opened: Opened, mut at: u32) -> Result<(Opened, u32), Memory>
         ensures { IfOk result (λ r. r ≡ spec.more_opened (source_of self.now) opened at) }
     {
-        for _turn in 0..self.parts.words.len() {
+        for _turn in 0..self.parts.kinds.len() {
             match self.file_of_mode(opened.mode, at)? {
                 None => return Ok((opened, at)),
                 Some((file, next)) => {
@@ -138,7 +139,7 @@ impl<'a> Sentences<'a> {
     ) -> Result<(List<Bytes>, u32), Memory>
         ensures { IfOk result (λ r. r ≡ spec.more_files (source_of self.now) files at) }
     {
-        for _turn in 0..self.parts.words.len() {
+        for _turn in 0..self.parts.kinds.len() {
             match self.parts.name(at)? {
                 None => return Ok((files, at)),
                 Some((file, next)) => {

@@ -37,7 +37,7 @@ impl<'a> Sentences<'a> {
     ) -> Result<(List<Place>, u32), Memory>
         ensures { IfOk result (λ r. r ≡ spec.more_places (source_of self.now) level places at) }
     {
-        for _turn in 0..self.parts.words.len() {
+        for _turn in 0..self.parts.kinds.len() {
             match self.parts.place(level, at)? {
                 None => return Ok((places, at)),
                 Some((place, next)) => {
@@ -73,7 +73,7 @@ impl<'a> Sentences<'a> {
     ) -> Result<(List<Operand>, u32), Memory>
         ensures { IfOk result (λ r. r ≡ spec.more_operands (source_of self.now) level operands at) }
     {
-        for _turn in 0..self.parts.words.len() {
+        for _turn in 0..self.parts.kinds.len() {
             match self.parts.operand(level, at)? {
                 None => return Ok((operands, at)),
                 Some((operand, next)) => {

@@ -21,12 +21,28 @@ pub struct Sentences<'a> {
     pub program: u32,
     ghost known: { length keywords.now < 2 ^ 32 },
     ghost fits: { length parts.words.now < 2 ^ 32 },
+    ghost fewer: { length parts.kinds.now < 2 ^ 32 },
 }
 
 impl<'a> Sentences<'a> {
+    ghost use Rattle.cond_reader.specs.View.{text_of};
     ghost use Rattle.proc_reader.specs.Sentences as spec;
     ghost use Rattle.proc_reader.specs.View.{source_of};
     ghost use Rattle.proc_reader.specs.Reading.{IsUnread};
+
+    /// Sentences of these words, of which the others say what each is.
+    pub fn new(parts: Reader<'a>, keywords: &'a [Keyword], program: u32) -> Sentences<'a>
+        requires known { length keywords.now < 2 ^ 32 }
+        requires fits { length parts.words.now < 2 ^ 32 }
+        requires fewer { length parts.kinds.now < 2 ^ 32 }
+        ensures { source_of result ≡ record { text = text_of parts.entry; keywords = keywords.now; program = program } }
+    {
+        Sentences {
+            parts,
+            keywords,
+            program,
+        }
+    }
 
     /// IF, EVALUATE or READ, where `level` levels may be opened inside it.
     #[cycle(statement)]
@@ -107,7 +123,7 @@ impl<'a> Sentences<'a> {
         ensures read { let t = source_of self.now in IfOk result (λ r. spec.more_statements t level (spec.inside t level) list spot ≡ Some r) }
         ensures unread { let t = source_of self.now in IfErr result (IsUnread (spec.more_statements t level (spec.inside t level) list spot)) }
     {
-        for _turn in 0..self.parts.words.len() + 1 {
+        for _turn in 0..self.parts.kinds.len() + 1 {
             if !self.begins(spot.at) {
                 return Ok((list, spot));
             }

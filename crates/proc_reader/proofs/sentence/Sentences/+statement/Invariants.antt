@@ -66,10 +66,10 @@ abbrev pub invariant-more_groups-loop-turn : goal.invariant-more_groups-loop-tur
 invariant-more_groups-loop-turn l =
     let t = source_of l.self in
     let lists = statements t l.level in
-    more_groups t l.level lists l.subject l.fn.groups l.fn.spot ≡ repeated (groups_turn t l.level lists l.subject) (length l.self.parts.words.now + 1 - l._turn) l.groups l.spot
+    more_groups t l.level lists l.subject l.fn.groups l.fn.spot ≡ repeated (groups_turn t l.level lists l.subject) (length l.self.parts.kinds.now + 1 - l._turn) l.groups l.spot
 
 abbrev pub invariant-more_statements-loop-turn : goal.invariant-more_statements-loop-turn
 invariant-more_statements-loop-turn l =
     let t = source_of l.self in
     let lists = inside t l.level in
-    more_statements t l.level lists l.fn.list l.fn.spot ≡ repeated (statements_turn t l.level lists) (length l.self.parts.words.now + 1 - l._turn) l.list l.spot
+    more_statements t l.level lists l.fn.list l.fn.spot ≡ repeated (statements_turn t l.level lists) (length l.self.parts.kinds.now + 1 - l._turn) l.list l.spot

@@ -8,4 +8,4 @@ use Rattle.proc_reader.proofs.sentence.Sentences.more_files.Given as goal
 
 abbrev pub invariant-loop-turn : goal.invariant-loop-turn
 invariant-loop-turn l =
-    more_files (source_of l.self) l.fn.files l.fn.at ≡ chain (λ _. name (source_of l.self).text) (with_last) (length l.self.parts.words.now - l._turn) l.files l.at
+    more_files (source_of l.self) l.fn.files l.fn.at ≡ chain (λ _. name (source_of l.self).text) (with_last) (length l.self.parts.kinds.now - l._turn) l.files l.at

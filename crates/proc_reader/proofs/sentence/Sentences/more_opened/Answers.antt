@@ -8,7 +8,7 @@ returns-in-None c = turn_refused _ (one_more) _ c.loop-turn._turn _ _ c.loop-tur
 
 pub loop-turn-preserved : goal.loop-turn-preserved
 loop-turn-preserved c =
-    rw c.in_ok-one_more-in-Some.ensures
+    rw c.in_ok-opened-in-Some.ensures
     (turn_taken _ (one_more) _ c.loop-turn._turn _ _ _ _ c.loop-turn.invariant (omega arith) (sym c.in_ok-file_of_mode.ensures ∙ c.in-Some.is))
 
 pub returns : goal.returns

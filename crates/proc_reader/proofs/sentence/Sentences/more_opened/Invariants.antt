@@ -7,4 +7,4 @@ use Rattle.proc_reader.proofs.sentence.Sentences.more_opened.Given as goal
 
 abbrev pub invariant-loop-turn : goal.invariant-loop-turn
 invariant-loop-turn l =
-    more_opened (source_of l.self) l.fn.opened l.fn.at ≡ chain (λ opened. file_of_mode (source_of l.self) opened.mode) (one_more) (length l.self.parts.words.now - l._turn) l.opened l.at
+    more_opened (source_of l.self) l.fn.opened l.fn.at ≡ chain (λ opened. file_of_mode (source_of l.self) opened.mode) (one_more) (length l.self.parts.kinds.now - l._turn) l.opened l.at

@@ -7,4 +7,4 @@ use Rattle.proc_reader.proofs.sentence.Sentences.more_operands.Given as goal
 
 abbrev pub invariant-loop-turn : goal.invariant-loop-turn
 invariant-loop-turn l =
-    more_operands (source_of l.self) l.level l.fn.operands l.fn.at ≡ chain (λ _. operand_at (source_of l.self).text l.level) with_last (length l.self.parts.words.now - l._turn) l.operands l.at
+    more_operands (source_of l.self) l.level l.fn.operands l.fn.at ≡ chain (λ _. operand_at (source_of l.self).text l.level) with_last (length l.self.parts.kinds.now - l._turn) l.operands l.at

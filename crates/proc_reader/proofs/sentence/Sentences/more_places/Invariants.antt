@@ -7,4 +7,4 @@ use Rattle.proc_reader.proofs.sentence.Sentences.more_places.Given as goal
 
 abbrev pub invariant-loop-turn : goal.invariant-loop-turn
 invariant-loop-turn l =
-    more_places (source_of l.self) l.level l.fn.places l.fn.at ≡ chain (λ _. place (source_of l.self).text l.level) with_last (length l.self.parts.words.now - l._turn) l.places l.at
+    more_places (source_of l.self) l.level l.fn.places l.fn.at ≡ chain (λ _. place (source_of l.self).text l.level) with_last (length l.self.parts.kinds.now - l._turn) l.places l.at

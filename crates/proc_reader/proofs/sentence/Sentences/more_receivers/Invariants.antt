@@ -7,4 +7,4 @@ use Rattle.proc_reader.proofs.sentence.Sentences.more_receivers.Given as goal
 
 abbrev pub invariant-loop-turn : goal.invariant-loop-turn
 invariant-loop-turn l =
-    more_receivers (source_of l.self) l.level l.fn.receivers l.fn.at ≡ chain (λ _. receiver (source_of l.self) l.level) (one_more) (length l.self.parts.words.now - l._turn) l.receivers l.at
+    more_receivers (source_of l.self) l.level l.fn.receivers l.fn.at ≡ chain (λ _. receiver (source_of l.self) l.level) (one_more) (length l.self.parts.kinds.now - l._turn) l.receivers l.at

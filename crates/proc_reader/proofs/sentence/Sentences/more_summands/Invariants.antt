@@ -9,4 +9,4 @@ use Rattle.proc_reader.proofs.sentence.Sentences.more_summands.Given as goal
 
 abbrev pub invariant-loop-turn : goal.invariant-loop-turn
 invariant-loop-turn l =
-    more_summands (source_of l.self) l.level l.fn.sum l.fn.at ≡ chain (λ _. operand_at (source_of l.self).text l.level) (joined by.Add) (length l.self.parts.words.now - l._turn) l.sum l.at
+    more_summands (source_of l.self) l.level l.fn.sum l.fn.at ≡ chain (λ _. operand_at (source_of l.self).text l.level) (joined by.Add) (length l.self.parts.kinds.now - l._turn) l.sum l.at

@@ -7,4 +7,4 @@ use Rattle.proc_reader.proofs.sentence.Sentences.more_whens.Given as goal
 
 abbrev pub invariant-loop-turn : goal.invariant-loop-turn
 invariant-loop-turn l =
-    more_whens (source_of l.self) l.level l.subject l.fn.test l.fn.at ≡ chain (λ _. when (source_of l.self) l.level l.subject) (either) (length l.self.parts.words.now - l._turn) l.test l.at
+    more_whens (source_of l.self) l.level l.subject l.fn.test l.fn.at ≡ chain (λ _. when (source_of l.self) l.level l.subject) (either) (length l.self.parts.kinds.now - l._turn) l.test l.at
