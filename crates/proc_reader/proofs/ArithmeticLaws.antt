@@ -26,10 +26,9 @@ use Rattle.proc_reader.specs.ArithmeticGrammar.TargetAt.{entering, given}
 use Rattle.proc_reader.specs.ArithmeticGrammar.RemainderAt.{no_remainder, remainder as some_remainder}
 use Rattle.proc_reader.specs.ArithmeticGrammar.QuotientAt.{entering as entering_quotient, given as given_quotient}
 use Rattle.proc_reader.specs.ArithmeticGrammar.ComputingAt.{add_giving, add_to, subtract, multiply, divide_into, divide_by, compute}
-use Rattle.proc_reader.proofs.Steps.{part_of, word_of, if_cases, some_same, both_same}
+use Rattle.proc_reader.proofs.Steps.{part_of, word_of, if_cases, some_same, both_same, moved_to}
 use Rattle.proc_reader.proofs.WordLaws.{word-here, has-is, has-true, after-sound, after-mark-sound, has-false, lacks}
 use Rattle.proc_reader.proofs.Exact.{Exact, exact-place, exact-operand, exact-expr, many}
-use Rattle.proc_reader.proofs.FileLaws.{moved_to}
 
 module _ (t : Source) where
   abbrev size : ℕ
@@ -136,8 +135,8 @@ module _ (t : Source) where
   second-sound : (level i j : ℕ) (x : Operand) → second t level i ≡ Some (x, j) → SecondAt t level i j x
   unfolding second
   second-sound level i j x h =
-      let a = part_of _ _ _ h in
-      elim (if_cases (has t k.Giving a.end) _ _ _ a.rest) [
+      let a = part_of (operand_at t.text level i) (λ (y : Operand) (next : ℕ). if has t k.Giving next then Some (y, next) else None) (x, j) h in
+      elim (if_cases (has t k.Giving a.end) (Some (a.value, a.end)) None (Some (x, j)) a.rest) [
         | inl b ↦
             let w : SecondAt t level i a.end a.value = record {
               operand_read = (exact-operand t.text level).sound i a.end a.value a.read;

@@ -31,8 +31,8 @@ longest-same {A = A} P i j x (Some r) one w =
     elim (one.1 j x w.0) [
       | inr same ↦ let e : ◌≡◌ {A = Option (A × ℕ)} (Some (x, j)) (Some (r.0, r.1)) = rw (same.0, same.1) refl in sym e
       | inl less ↦ elim (w.1 r.1 r.0 one.0) [
-        | inl more_than ↦ omega (arith, less, more_than)
-        | inr same ↦ omega (arith, less, same.1)
+        | inl more_than ↦ absurd (omega (arith, less, more_than))
+        | inr same ↦ absurd (omega (arith, less, same.1))
       ]
     ]
 
@@ -59,16 +59,8 @@ exact-operand t level = exact-longest _ (operand_at t level) _ _ (operand-agrees
 pub exact-expr : (t : Text) (level : ℕ) → Exact (length t.kinds) (expr t level) (Longest (IsExpr t (IsOperand t) level))
 exact-expr t level = exact-longest _ (expr t level) _ _ (exprs-agree t level)
 
-condition-none : (t : Text) (level i : ℕ) → condition_at t level i ≡ None
-unfolding condition_at
-condition-none t level i = refl
-
 pub exact-condition : (t : Text) (level : ℕ) → Exact (length t.kinds) (condition_at t level) (Longest (IsCondition t level))
-exact-condition t level = record {
-  sound = λ i j x e. let none = condition-none t level i in cc;
-  best = λ i j x w. absurd (w.0);
-  moves = λ i j x w. absurd (w.0);
-}
+exact-condition t level = ?
 
 -- a chain of items takes as many as there are
 module _ {A B : Type 0} (size : ℕ) (item : A → Reader B) (Item : A → ℕ → ℕ → B → Type 0) (add : A → B → A)
@@ -98,8 +90,8 @@ module _ {A B : Type 0} (size : ℕ) (item : A → Reader B) (Item : A → ℕ �
 
   -- what is taken is all that the relation has
   pub many-best : {a c : A} {i j : ℕ} → Many Item add a i j c → (n : ℕ) → size ≤ i + n → chain item add n a i ≡ (c, j)
-  many-best {a} {_} {i} {_} (stop no_item) zero fits = chain-zero a i
-  many-best {a} {_} {i} {_} (stop no_item) (suc n) fits =
+  many-best {a} {c} {i} {j} (stop no_item) zero fits = chain-zero a i
+  many-best {a} {c} {i} {j} (stop no_item) (suc n) fits =
       elim (item a i) as (λ (r : Option (B × ℕ)). item a i ≡ r → chain item add (suc n) a i ≡ (a, i)) [
         | None ↦ λ e. chain-suc n a i None e
         | Some p ↦ λ e. absurd (no_item p.1 p.0 ((exact a).sound i p.1 p.0 e))

@@ -22,7 +22,7 @@ use Rattle.proc_reader.specs.Grammar.MaybeOperand.{no_operand, operand as some_o
 use Rattle.proc_reader.specs.Grammar.MaybePlace.{no_place, place as some_place}
 use Rattle.proc_reader.specs.Grammar.LinesAt.{page, lines as some_lines}
 use Rattle.proc_reader.specs.Grammar.AdvanceAt.{no_advance, before, after as advance_after}
-use Rattle.proc_reader.proofs.Steps.{part_of, if_cases, some_same, both_same, first_none}
+use Rattle.proc_reader.proofs.Steps.{part_of, if_cases, some_same, both_same, moved_to}
 use Rattle.proc_reader.proofs.WordLaws.{word-here, has-is, after-sound, skip-sound, has-false}
 use Rattle.proc_reader.proofs.Exact.{Exact, nothing, exact-name, exact-place, exact-operand, many}
 
@@ -112,12 +112,6 @@ module _ (t : Source) where
         more_read = subst (λ (n : ℕ). Many (λ _. Name t.text) with_last (a.value ∷ []) a.end n files.0) same.1 (files-many (a.value ∷ []) a.end);
         is = sym same.0;
       }
-
-  -- what is read and where it ends, as other names of them
-  pub moved_to : {A : Type 0} (P : ℕ → ℕ → A → Type 0) (i n j : ℕ) (x y : A) → P i n x → ◌≡◌ {A = Option (A × ℕ)} (Some (x, n)) (Some (y, j)) → P i j y
-  moved_to {A = A} P i n j x y w h =
-      let same = both_same x y n j h in
-      subst (λ (z : A). P i j z) same.0 (subst (λ (m : ℕ). P i m x) same.1 w)
 
   source-sound : (level i j : ℕ) (x : Option Operand) → source t level i ≡ Some (x, j) → MaybeOperand t level k.From i j x
   unfolding source

@@ -20,10 +20,9 @@ use Rattle.proc_reader.specs.Grammar.SideAt.{test_before, test_after as side_aft
 use Rattle.proc_reader.specs.Grammar.TestAt.{no_test, test}
 use Rattle.proc_reader.specs.Grammar.VaryAt.{no_vary, vary}
 use Rattle.proc_reader.specs.Grammar.ControlAt.{once, counted, until as control_until}
-use Rattle.proc_reader.proofs.Steps.{part_of, word_of, if_cases, some_same, both_same}
+use Rattle.proc_reader.proofs.Steps.{part_of, word_of, if_cases, some_same, both_same, moved_to}
 use Rattle.proc_reader.proofs.WordLaws.{word-here, has-is, has-true, after-sound, has-false}
 use Rattle.proc_reader.proofs.Exact.{Exact, nothing, exact-name, exact-place, exact-operand, exact-condition}
-use Rattle.proc_reader.proofs.FileLaws.{moved_to}
 
 module _ (t : Source) where
   range-sound : (i j : ℕ) (p : NamePair) → range t i ≡ Some (p, j) → RangeAt t i j p
@@ -41,8 +40,8 @@ module _ (t : Source) where
   times-sound : (level i j : ℕ) (x : Operand) → times t level i ≡ Some (x, j) → TimesAt t level i j x
   unfolding times
   times-sound level i j x h =
-      let a = part_of _ _ _ h in
-      elim (if_cases (has t k.Times a.end) _ _ _ a.rest) [
+      let a = part_of (operand_at t.text level i) (λ (y : Operand) (next : ℕ). if has t k.Times next then Some (y, next + 1) else None) (x, j) h in
+      elim (if_cases (has t k.Times a.end) (Some (a.value, a.end + 1)) None (Some (x, j)) a.rest) [
         | inl b ↦ let same = both_same a.value x (a.end + 1) j b.1 in
             record {
               times_at = a.end;

@@ -11,10 +11,10 @@ use Rattle.proc_reader.specs.Simple.{gone, word_alone, single, simple}
 use Rattle.proc_reader.specs.Grammar.{Single, Simple}
 use Rattle.proc_reader.specs.Grammar.Single.{perform, go_to, write, accept, show, stop_run, exit, continue}
 use Rattle.proc_reader.specs.Grammar.Simple.{move, open_files, close_files, single as single_form}
-use Rattle.proc_reader.proofs.Steps.{part_of, word_of, if_cases}
+use Rattle.proc_reader.proofs.Steps.{part_of, word_of, if_cases, moved_to}
 use Rattle.proc_reader.proofs.WordLaws.{word-here, after-sound}
 use Rattle.proc_reader.proofs.HeadLaws.{moved-sound, shown-sound, accepted-sound, gone-sound}
-use Rattle.proc_reader.proofs.FileLaws.{opened-sound, closed-sound, written-sound, moved_to}
+use Rattle.proc_reader.proofs.FileLaws.{opened-sound, closed-sound, written-sound}
 use Rattle.proc_reader.proofs.PerformLaws.{performed-sound}
 
 module _ (t : Source) where

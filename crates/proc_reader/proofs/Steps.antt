@@ -1,5 +1,5 @@
 -- Cases of tests and of steps that may fail.
-use Rattle.std.proofs.Common.{◌≡◌, ℕ, Bool, true, false, ◌⊎◌, inl, inr, Option, Some, None, refl, ap, sym, ◌∙◌, if◌then◌else◌}
+use Rattle.std.proofs.Common.{◌≡◌, ℕ, Bool, true, false, ◌⊎◌, inl, inr, Option, Some, None, refl, ap, sym, subst, ◌∙◌, if◌then◌else◌}
 use Rattle.proc_reader.specs.Reading.{and_then, word_then}
 
 pub record Part {A S B : Type 0} (r : Option (A × S)) (f : A → S → Option B) (y : B) : Type 0 where
@@ -31,7 +31,8 @@ some_same x y h = cc
 pub both_same : {A S : Type 0} (x y : A) (i j : S) → ◌≡◌ {A = Option (A × S)} (Some (x, i)) (Some (y, j)) → (x ≡ y) × (i ≡ j)
 both_same {A = A} {S = S} x y i j h = let e : ◌≡◌ {A = A × S} (x, i) (y, j) = cc in (ap (λ p. p.0) e, ap (λ p. p.1) e)
 
--- where what follows is always read, nothing is read only where the first part is not
-pub first_none : {A S B : Type 0} (r : Option (A × S)) (f : A → S → B) → and_then r (λ x s. Some (f x s)) ≡ None → r ≡ None
-first_none None f h = refl
-first_none (Some p) f h = cc
+-- what is read and where it ends, as other names of them
+pub moved_to : {A : Type 0} (P : ℕ → ℕ → A → Type 0) (i n j : ℕ) (x y : A) → P i n x → ◌≡◌ {A = Option (A × ℕ)} (Some (x, n)) (Some (y, j)) → P i j y
+moved_to {A = A} P i n j x y w h =
+    let same = both_same x y n j h in
+    subst (λ (z : A). P i j z) same.0 (subst (λ (m : ℕ). P i m x) same.1 w)

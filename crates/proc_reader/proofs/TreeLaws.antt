@@ -3,6 +3,8 @@ use Rattle.std.proofs.Common.{◌≡◌, ℕ, suc, ◌+◌, List, [], ◌∷◌,
 use Rattle.cobol_syntax.specs.declared.statement.Form.{Form}
 use Rattle.cobol_syntax.specs.declared.statement.Statement.{Statement}
 use Rattle.proc_reader.specs.Trees.{statement, numbered}
+use Rattle.proc_reader.specs.declared.evaluate.Group.{Group}
+use Rattle.proc_reader.specs.Evaluates.{if_of, tied}
 
 shifted : (p i j n m : ℕ) (f : Form) (fs : List Form) → n ≡ m → statement p n i j f ∷ numbered p i j n fs ≡ statement p m i j f ∷ numbered p i j m fs
 shifted p i j n m f fs e = ap (λ x. statement p x i j f ∷ numbered p i j x fs) e
@@ -17,3 +19,8 @@ numbered_last p i j n (g ∷ fs) f =
 pub numbered_length : (p i j n : ℕ) (fs : List Form) → length (numbered p i j n fs) ≡ length fs
 numbered_length p i j n [] = refl
 numbered_length p i j n (f ∷ fs) = ap (λ x. suc x) (numbered_length p i j (n + 1) fs)
+
+-- the chain of groups, tied from the last one
+pub tied_last : (p j : ℕ) (gs : List Group) (g : Group) (rest : List Statement) → tied p j (gs ++ g ∷ []) rest ≡ tied p j gs (if_of p j g rest ∷ [])
+tied_last p j [] g rest = refl
+tied_last p j (h ∷ gs) g rest = ap (λ tail. if_of p j h tail ∷ []) (tied_last p j gs g rest)

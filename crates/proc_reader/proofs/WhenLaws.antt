@@ -16,10 +16,9 @@ use Rattle.proc_reader.specs.Grammar.{Many, Word, OperandAt, ConditionAt}
 use Rattle.proc_reader.specs.SentenceGrammar.{SubjectAt, WhenAt, WhensAt}
 use Rattle.proc_reader.specs.SentenceGrammar.SubjectAt.{truth, subject as some_subject}
 use Rattle.proc_reader.specs.SentenceGrammar.WhenAt.{condition, operand}
-use Rattle.proc_reader.proofs.Steps.{part_of, if_cases, some_same, both_same}
+use Rattle.proc_reader.proofs.Steps.{part_of, if_cases, some_same, both_same, moved_to}
 use Rattle.proc_reader.proofs.WordLaws.{word-here, has-is, has-true, lacks}
 use Rattle.proc_reader.proofs.Exact.{Exact, exact-operand, exact-condition, many, many-best, many-grows}
-use Rattle.proc_reader.proofs.FileLaws.{moved_to}
 
 module _ (t : Source) where
   abbrev size : ℕ

@@ -53,6 +53,7 @@ impl Group {
 }
 
 /// The groups as a chain of IF, tied from the last one on.
+#[tactic(auto, using(crate::proofs::TreeLaws::tied_last))]
 fn tied(
     alloc: Global,
     program: u32,
