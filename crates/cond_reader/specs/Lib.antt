@@ -8,7 +8,9 @@ pub mod Kinds
 pub mod Longest
 pub mod Places
 pub mod Reads
+pub mod Relations
 pub mod Symbols
 pub mod Table
 pub mod Text
+pub mod UnitFaults
 pub mod View
