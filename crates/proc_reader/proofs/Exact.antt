@@ -11,9 +11,10 @@ use Rattle.cond_reader.specs.ExprGrammar.{IsOperand, IsExpr}
 use Rattle.cond_reader.specs.CondGrammar.{IsCondition}
 use Rattle.cond_reader.specs.Longest.{IsLongest}
 use Rattle.cond_reader.proofs.Best.{Agrees}
-use Rattle.cond_reader.proofs.LongestLaws.{longest}
+use Rattle.cond_reader.proofs.LongestLaws.{longest, longest_condition}
 use Rattle.cond_reader.proofs.PlaceLaws.{name-agrees, place-agrees}
 use Rattle.cond_reader.proofs.OperandLaws.{operand-agrees, exprs-agree}
+use Rattle.cond_reader.proofs.PieceLaws.{pieces-agree}
 use Rattle.proc_reader.specs.Grammar.{Many, Longest}
 use Rattle.proc_reader.specs.Grammar.Many.{stop, more}
 
@@ -60,7 +61,11 @@ pub exact-expr : (t : Text) (level : ℕ) → Exact (length t.kinds) (expr t lev
 exact-expr t level = exact-longest _ (expr t level) _ _ (exprs-agree t level)
 
 pub exact-condition : (t : Text) (level : ℕ) → Exact (length t.kinds) (condition_at t level) (Longest (IsCondition t level))
-exact-condition t level = ?
+exact-condition t level = record {
+  sound = λ i j x e. subst (λ r. IsLongest (IsCondition t level) i r) e (longest_condition t level i);
+  best = λ i j x w. longest-same (IsCondition t level) i j x (condition_at t level i) (longest_condition t level i) w;
+  moves = λ i j x w. (pieces-agree t level None).moves i j _ (w.0.reads);
+}
 
 -- a chain of items takes as many as there are
 module _ {A B : Type 0} (size : ℕ) (item : A → Reader B) (Item : A → ℕ → ℕ → B → Type 0) (add : A → B → A)

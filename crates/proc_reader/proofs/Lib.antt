@@ -4,6 +4,7 @@ pub mod FileLaws
 pub mod HeadLaws
 pub mod Levels
 pub mod PerformLaws
+pub mod ReadLaws
 pub mod Repeats
 pub mod SentenceLaws
 pub mod SimpleLaws

@@ -43,7 +43,7 @@ use Rattle.proc_reader.specs.SentenceGrammar.WhenOther.{no_when, when as some_wh
 use Rattle.proc_reader.specs.SentenceGrammar.Nested.{if_read, evaluate, read, perform}
 use Rattle.proc_reader.specs.SentenceGrammar.StatementAt.{simple as simple_read, compute, nested}
 use Rattle.proc_reader.specs.SentenceGrammar.More.{no_statement, one_statement}
-use Rattle.proc_reader.proofs.Steps.{part_of, word_of, if_cases, some_same, both_same}
+use Rattle.proc_reader.proofs.Steps.{part_of, word_of, if_cases, some_same, both_same, never}
 use Rattle.proc_reader.proofs.WordLaws.{word-here, has-is, lacks, after-sound, skip-sound, skip-best, has-false, has-true, mark-here, after-mark-sound}
 use Rattle.proc_reader.proofs.Exact.{exact-name, exact-condition}
 use Rattle.proc_reader.proofs.FileLaws.{destination-sound}
@@ -288,13 +288,13 @@ module _ (t : Source) where
     groups-sound level x zero gs all s last h = let none = groups-none level x gs s in cc
     groups-sound level x (suc n) gs all s last h =
         elim (heads t level x s.at) as (λ (r : Option (Condition × ℕ)). heads t level x s.at ≡ r
-            → after_turn (repeated (groups_turn t level lists x) n) gs s (group_by t lists gs s r) ≡ Some (all, last) → Groups t L level x gs s last all) [
+        → after_turn (repeated (groups_turn t level lists x) n) gs s (group_by t lists gs s r) ≡ Some (all, last) → Groups t L level x gs s last all) [
           | None ↦ λ e turn. landed (Groups t L level x gs) s s last gs all (no_more (no-heads t level x s.at e)) turn
           | Some r ↦ λ e. elim (group t lists s.at r.0 (spot r.1 s.number)) as (λ (g : Option (Group × Spot)). group t lists s.at r.0 (spot r.1 s.number) ≡ g
               → after_turn (repeated (groups_turn t level lists x) n) gs s (taken t gs g) ≡ Some (all, last) → Groups t L level x gs s last all) [
-            | None ↦ λ is turn. cc
-            | Some g ↦ λ is turn. one_more (group-sound level x s.at r.1 r.0 s g.1 g.0 e is) (groups-sound level x n (with_last gs g.0) all g.1 last turn)
-          ] refl
+                | None ↦ λ is turn. absurd (never turn)
+                | Some g ↦ λ is turn. one_more (group-sound level x s.at r.1 r.0 s g.1 g.0 e is) (groups-sound level x n (with_last gs g.0) all g.1 last turn)
+              ] refl
         ] refl (sym (groups-turn level x n gs s) ∙ h)
 
     when-other-sound : (s last : Spot) (list : List Statement) → when_other t lists s ≡ Some (list, last) → WhenOther t L s last list
@@ -418,7 +418,7 @@ module _ (t : Source) where
           | inr a ↦ let none = a.1 in cc
         ]
     statement-by class.Perform level s last list h = perform-sound level s last list h
-    statement-by class.Inner level s last list h = cc
+    statement-by class.Inner level s last list h = absurd (never h)
 
     statement-sound : (level : ℕ) (s last : Spot) (list : List Statement) → statement_at t level lists s ≡ Some (list, last) → StatementAt t L level s last list
     unfolding statement_at
@@ -439,14 +439,14 @@ module _ (t : Source) where
     more-sound level zero list all s last h = let none = more-none level list s in cc
     more-sound level (suc n) list all s last h =
         elim (begins t s.at) as (λ (b : Bool). begins t s.at ≡ b
-            → after_turn (repeated (statements_turn t level lists) n) list s (if b then longer t list (statement_at t level lists s) else over) ≡ Some (all, last)
-            → More t L level list s last all) [
+        → after_turn (repeated (statements_turn t level lists) n) list s (if b then longer t list (statement_at t level lists s) else over) ≡ Some (all, last)
+        → More t L level list s last all) [
           | false ↦ λ e turn. landed (More t L level list) s s last list all (no_statement e) turn
           | true ↦ λ e. elim (statement_at t level lists s) as (λ (r : Option (List Statement × Spot)). statement_at t level lists s ≡ r
               → after_turn (repeated (statements_turn t level lists) n) list s (longer t list r) ≡ Some (all, last) → More t L level list s last all) [
-            | None ↦ λ is turn. cc
-            | Some r ↦ λ is turn. one_statement (statement-sound level s r.1 r.0 is) (more-sound level n (list ++ r.0) all r.1 last turn)
-          ] refl
+                | None ↦ λ is turn. absurd (never turn)
+                | Some r ↦ λ is turn. one_statement (statement-sound level s r.1 r.0 is) (more-sound level n (list ++ r.0) all r.1 last turn)
+              ] refl
         ] refl (sym (more-turn level n list s) ∙ h)
 
     list-sound : (level : ℕ) (s last : Spot) (list : List Statement) → statements_by t level lists s ≡ Some (list, last) → StatementsAt t L level s last list

@@ -31,6 +31,9 @@ some_same x y h = cc
 pub both_same : {A S : Type 0} (x y : A) (i j : S) → ◌≡◌ {A = Option (A × S)} (Some (x, i)) (Some (y, j)) → (x ≡ y) × (i ≡ j)
 both_same {A = A} {S = S} x y i j h = let e : ◌≡◌ {A = A × S} (x, i) (y, j) = cc in (ap (λ p. p.0) e, ap (λ p. p.1) e)
 
+pub never : {A : Type 0} {x : A} → None ≡ Some x → ⊥
+never h = cc
+
 -- what is read and where it ends, as other names of them
 pub moved_to : {A : Type 0} (P : ℕ → ℕ → A → Type 0) (i n j : ℕ) (x y : A) → P i n x → ◌≡◌ {A = Option (A × ℕ)} (Some (x, n)) (Some (y, j)) → P i j y
 moved_to {A = A} P i n j x y w h =

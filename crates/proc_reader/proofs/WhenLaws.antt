@@ -34,6 +34,7 @@ module _ (t : Source) where
       ]
 
   choice-sound : (level : ℕ) (x : Option Expr) (i j : ℕ) (c : Condition) → Word t k.When i (i + 1) → choice t level x (i + 1) ≡ Some (c, j) → WhenAt t level x i j c
+  unfolding choice
   choice-sound level None i j c w h = condition w ((exact-condition t.text level).sound (i + 1) j c h)
   choice-sound level (Some x) i j c w h =
       let a = part_of _ _ _ h in
@@ -53,6 +54,7 @@ module _ (t : Source) where
       ap (λ (b : Bool). if b then choice t level x (i + 1) else None) (has-is t k.When i w.is_word) ∙ ap (λ n. choice t level x n) (sym w.next_is)
 
   when-best : (level : ℕ) (x : Option Expr) (i j : ℕ) (c : Condition) → WhenAt t level x i j c → when t level x i ≡ Some (c, j)
+  unfolding choice
   when-best level _ i j c (condition {m = m} w test) = when-is level None i m w ∙ (exact-condition t.text level).best m j c test
   when-best level _ i j _ (operand {m = m} {x = x} {y = y} w read) =
       when-is level (Some x) i m w ∙ ap (λ o. and_then o (λ (z : Operand) (next : ℕ). Some (equality x z m next, next))) ((exact-operand t.text level).best m j y read)

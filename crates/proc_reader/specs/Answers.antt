@@ -3,14 +3,14 @@ use Rattle.std.specs.Prelude.{◌≡◌, ℕ, List, map, Option, Some, None}
 use Rattle.y2k_base.specs.declared.word.Word.{Word}
 use Rattle.cobol_syntax.specs.declared.program.Sentence.{Sentence}
 use Rattle.cond_reader.specs.Kinds.{text_with}
-use Rattle.proc_reader.specs.declared.fault.UnitFault.{UnitFault}
-use Rattle.proc_reader.specs.declared.fault.UnitFault.TheVariants as fault
+use Rattle.cond_reader.specs.declared.fault.UnitFault.{UnitFault}
+use Rattle.cond_reader.specs.declared.fault.UnitFault.TheVariants as fault
 use Rattle.proc_reader.specs.Keywords.{keyword_of}
 use Rattle.proc_reader.specs.Source.{Source}
 use Rattle.proc_reader.specs.Reading.{spot}
 use Rattle.proc_reader.specs.Sentences.{sentence}
 use Rattle.proc_reader.specs.SentenceGrammar.{IsSentence}
-use Rattle.proc_reader.specs.UnitFaults.{unit_fault}
+use Rattle.cond_reader.specs.UnitFaults.{unit_fault}
 
 -- the words of a program with these condition-names
 abbrev pub source_with : List Word → List (List ℕ) → ℕ → Source

@@ -212,12 +212,7 @@ impl<'a> Sentences<'a> {
 
     /// The sum so far, and the operands from here on.
     #[tactic(auto, unfolding(crate::specs::Arithmetic::more_summands))]
-    fn more_summands(
-        &self,
-        level: u32,
-        mut sum: Expr,
-        mut at: u32,
-    ) -> Result<(Expr, u32), Memory>
+    fn more_summands(&self, level: u32, mut sum: Expr, mut at: u32) -> Result<(Expr, u32), Memory>
         ensures { IfOk result (λ r. r ≡ spec.more_summands (source_of self.now) level sum at) }
     {
         for _turn in 0..self.parts.kinds.len() {

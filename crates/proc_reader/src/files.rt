@@ -132,11 +132,7 @@ impl<'a> Sentences<'a> {
 
     /// The names read so far, and those from here on.
     #[tactic(auto, unfolding(crate::specs::Files::more_files))]
-    fn more_files(
-        &self,
-        mut files: List<Bytes>,
-        mut at: u32,
-    ) -> Result<(List<Bytes>, u32), Memory>
+    fn more_files(&self, mut files: List<Bytes>, mut at: u32) -> Result<(List<Bytes>, u32), Memory>
         ensures { IfOk result (λ r. r ≡ spec.more_files (source_of self.now) files at) }
     {
         for _turn in 0..self.parts.kinds.len() {

@@ -12,6 +12,7 @@ mod keyword;
 mod moves;
 mod nested;
 mod perform;
+mod read;
 mod sentence;
 mod simple;
 mod spot;
@@ -19,5 +20,6 @@ mod tree;
 mod word;
 
 pub use keyword::{Keyword, keyword_of, keywords_of, same_keyword};
+pub use read::read_sentence;
 pub use sentence::Sentences;
 pub use spot::{Spot, Stop};

@@ -36,11 +36,8 @@ pub fn class_of(keyword: Keyword) -> Class
         | Keyword::Write
         | Keyword::Accept
         | Keyword::Display => Class::Simple,
-        Keyword::Add
-        | Keyword::Subtract
-        | Keyword::Multiply
-        | Keyword::Divide
-        | Keyword::Compute => Class::Arithmetic,
+        Keyword::Add | Keyword::Subtract | Keyword::Multiply | Keyword::Divide | Keyword::Compute =>
+            Class::Arithmetic,
         Keyword::If | Keyword::Evaluate | Keyword::Read => Class::Nested,
         Keyword::Perform => Class::Perform,
         _ => Class::Inner,
@@ -149,11 +146,7 @@ impl<'a> Sentences<'a> {
 
     /// The statements of a text statement inside which no statement stands.
     #[tactic(auto, unfolding(crate::specs::Simple::simple_statements))]
-    pub fn simple_statements(
-        &self,
-        level: u32,
-        spot: Spot,
-    ) -> Result<(List<Statement>, Spot), Stop>
+    pub fn simple_statements(&self, level: u32, spot: Spot) -> Result<(List<Statement>, Spot), Stop>
         ensures read { IfOk result (λ r. spec.simple_statements (source_of self.now) level spot ≡ Some r) }
         ensures unread { IfErr result (IsUnread (spec.simple_statements (source_of self.now) level spot)) }
     {

@@ -20,6 +20,7 @@ pub enum Stop {
 
 impl From<Memory> for Stop {
     ghost use Rattle.proc_reader.specs.declared.spot.Stop.TheVariants as stop;
+
     ghost from_gives = { λ _ s. s ≡ stop.Memory };
 
     fn from(_: Memory) -> Stop {
@@ -29,6 +30,7 @@ impl From<Memory> for Stop {
 
 impl From<AllocError> for Stop {
     ghost use Rattle.proc_reader.specs.declared.spot.Stop.TheVariants as stop;
+
     ghost from_gives = { λ _ s. s ≡ stop.Memory };
 
     fn from(_: AllocError) -> Stop {
@@ -38,6 +40,7 @@ impl From<AllocError> for Stop {
 
 impl<T: Drop> From<AllocFailed<T>> for Stop {
     ghost use Rattle.proc_reader.specs.declared.spot.Stop.TheVariants as stop;
+
     ghost from_gives = { λ _ s. s ≡ stop.Memory };
 
     fn from(_: AllocFailed<T>) -> Stop {

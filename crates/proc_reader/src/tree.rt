@@ -119,10 +119,7 @@ pub fn alone<T: Drop>(alloc: Global, item: T) -> Result<List<T>, Memory>
 }
 
 /// The statements of one list and then those of another.
-pub fn appended(
-    first: List<Statement>,
-    second: List<Statement>,
-) -> Result<List<Statement>, Memory>
+pub fn appended(first: List<Statement>, second: List<Statement>) -> Result<List<Statement>, Memory>
     ensures { IfOk result (λ list. list ≡ first ++ second) }
 {
     let mut all = first.into_vec();
