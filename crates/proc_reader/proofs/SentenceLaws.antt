@@ -400,11 +400,13 @@ module _ (t : Source) where
     perform-sound : (level : ℕ) (s last : Spot) (list : List Statement) → perform_statement t level lists s ≡ Some (list, last) → StatementAt t L level s last list
     unfolding perform_statement
     perform-sound level s last list h =
-        let a = word_of _ _ _ h in
-        elim (if_cases (is_inline t level a.end) _ _ _ a.rest) [
-          | inl b ↦ elim (if_cases (nat_lt 0 level) _ _ _ b.1) [
+        let inner : Option (List Statement × Spot) = if nat_lt 0 level then inline_statement t (level - 1) lists s else None in
+        let outer : ℕ → Option (List Statement × Spot) = λ j. if is_inline t level j then (if nat_lt 0 level then inline_statement t (level - 1) lists s else None) else simple_statements t level s in
+        let a = word_of (after t k.Perform s.at) outer (list, last) h in
+        elim (if_cases (is_inline t level a.end) inner (simple_statements t level s) (Some (list, last)) a.rest) [
+          | inl b ↦ elim (if_cases (nat_lt 0 level) (inline_statement t (level - 1) lists s) None (Some (list, last)) b.1) [
             | inl c ↦ nested (above_zero level c.0) (perform (inline-sound (level - 1) s last list c.1))
-            | inr c ↦ let none = c.1 in cc
+            | inr c ↦ absurd (never c.1)
           ]
           | inr b ↦ simple-statements-sound level s last list b.1
         ]

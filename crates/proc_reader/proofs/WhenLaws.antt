@@ -101,9 +101,10 @@ module _ (t : Source) where
   pub heads-sound : (level : ℕ) (x : Option Expr) (i j : ℕ) (c : Condition) → heads t level x i ≡ Some (c, j) → WhensAt t level x i j c
   unfolding heads
   heads-sound level x i j c h =
-      let a = part_of _ _ _ h in
+      let rest : Condition → ℕ → Option (Condition × ℕ) = λ first next. let tests = more_whens t level x first next in if begins_body t tests.1 then Some tests else None in
+      let a = part_of (when t level x i) rest (c, j) h in
       let tests = more_whens t level x a.value a.end in
-      elim (if_cases (begins_body t tests.1) _ _ _ a.rest) [
+      elim (if_cases (begins_body t tests.1) (Some tests) None (Some (c, j)) a.rest) [
         | inl b ↦
             let w : WhensAt t level x i tests.1 tests.0 = record {
               more_at = a.end;

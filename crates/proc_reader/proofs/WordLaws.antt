@@ -34,8 +34,8 @@ module _ (t : Source) where
   has-false word i e is = let seen = has-is word i is in cc
 
   -- another word stands here
-  pub has-not : (word other : Keyword) (i : ℕ) → keyword t i ≡ other → (other ≡ word → ⊥) → has t word i ≡ false
-  has-not word other i is different = not_true (has t word i) (λ e. different (sym is ∙ has-true word i e))
+  pub has-not : (word here : Keyword) (i : ℕ) → keyword t i ≡ here → (here ≡ word → ⊥) → has t word i ≡ false
+  has-not word here i is different = not_true (has t word i) (λ e. different (sym is ∙ has-true word i e))
 
   pub lacks : (word : Keyword) (i : ℕ) → (keyword t i ≡ word → ⊥) → has t word i ≡ false
   lacks word i different = not_true (has t word i) (λ e. different (has-true word i e))

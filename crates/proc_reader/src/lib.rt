@@ -16,6 +16,8 @@ mod read;
 mod sentence;
 mod simple;
 mod spot;
+#[cfg(test)]
+mod tests;
 mod tree;
 mod word;
 
