@@ -1,1 +1,16 @@
+pub mod ArithmeticLaws
+pub mod Exact
+pub mod FileLaws
+pub mod HeadLaws
+pub mod Levels
+pub mod PerformLaws
+pub mod ReadLaws
+pub mod Repeats
 pub mod SentenceLaws
+pub mod SimpleLaws
+pub mod Steps
+pub mod Tables
+pub mod TreeLaws
+pub mod TurnLaws
+pub mod WhenLaws
+pub mod WordLaws

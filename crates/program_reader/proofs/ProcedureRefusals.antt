@@ -20,10 +20,10 @@ use Rattle.program_reader.specs.Procedures.{with_paragraph, heading, heading_uni
 use Rattle.program_reader.specs.ProgramGrammar.{IsHeading, Sentences, IsParagraph}
 use Rattle.program_reader.specs.ProgramGrammar.Sentences.{stop as no_sentence, more as one_sentence}
 use Rattle.program_reader.specs.RefusalGrammar.{Unread, SentencesRefused, ParagraphRefused, ParagraphsRefused, ChaptersRefused, ProcedureRefused}
-use Rattle.program_reader.specs.RefusalGrammar.ParagraphRefused.{header as no_header, body as no_body}
+use Rattle.program_reader.specs.RefusalGrammar.ParagraphRefused.{head as no_header, body as no_body}
 use Rattle.program_reader.specs.RefusalGrammar.ParagraphsRefused.{here, later}
 use Rattle.program_reader.specs.RefusalGrammar.ChaptersRefused.{missing, unnamed as no_unnamed, paragraphs as no_paragraphs, after_unnamed, beyond}
-use Rattle.program_reader.specs.RefusalGrammar.ProcedureRefused.{header as no_division, chapters as no_chapters}
+use Rattle.program_reader.specs.RefusalGrammar.ProcedureRefused.{division as no_division, chapters as no_chapters}
 use Rattle.program_reader.proofs.ProgramLaws.{required-ok, headers-read}
 use Rattle.program_reader.proofs.ProcedureLaws.{heading-sound, next-sound, body-sound, next-paragraph-sound, chapters-sound}
 use Rattle.program_reader.proofs.RefusalLaws.{err_same, so-err, so_at-err, required-err}

@@ -90,8 +90,8 @@ module _ (v : View) where
   required-err {X = X} None i x h = record { nothing = refl; is = sym (err_same {X = X} _ x h) }
   required-err (Some y) i x h = absurd (cc)
 
-  then : (P Q : ℕ → ℕ → Type 0) (i m j : ℕ) → P i m → Q m j → Then P Q i j
-  then P Q i m j p q = record { middle = m; first = p; second = q }
+  both : (P Q : ℕ → ℕ → Type 0) (i m j : ℕ) → P i m → Q m j → Then P Q i j
+  both P Q i m j p q = record { middle = m; first = p; second = q }
 
   pub identification-refused : (x : Refused) → identification v 0 ≡ Err x → IdentificationRefused v x
   unfolding identification program_id required name_unit
@@ -101,7 +101,7 @@ module _ (v : View) where
       (λ e. no_division (required-err _ 0 x e))
       (λ i one rest. so_at-err (required v (header v k.ProgramId i) i) (name_unit v) x G rest
       (λ e. no_program_id (headers-read v k.Identification k.Division 0 i one) (required-err _ i x e))
-      (λ j two e. no_name (then _ _ 0 i j (headers-read v k.Identification k.Division 0 i one) (header-read v k.ProgramId i j two)) (required-err _ j x e)))
+      (λ j two e. no_name (both _ _ 0 i j (headers-read v k.Identification k.Division 0 i one) (header-read v k.ProgramId i j two)) (required-err _ j x e)))
 
   computer-refused : (term : Term) (i : ℕ) (x : Refused) → computer v term i ≡ Err x → ComputerRefused v term i x
   unfolding computer name_unit
@@ -131,8 +131,8 @@ module _ (v : View) where
       (λ l is rest.
       let two = headers-sound v k.Configuration k.Section m l is in
       so_at-err (computer v k.SourceComputer l) (computer v k.ObjectComputer) x G rest
-      (λ e. no_source (then _ _ i m l one two) (computer-refused k.SourceComputer l x e))
-      (λ q read e. no_object (then _ _ i m q one (then _ _ m l q two (computer-sound v k.SourceComputer l q read))) (computer-refused k.ObjectComputer q x e)))
+      (λ e. no_source (both _ _ i m l one two) (computer-refused k.SourceComputer l x e))
+      (λ q read e. no_object (both _ _ i m q one (both _ _ m l q two (computer-sound v k.SourceComputer l q read))) (computer-refused k.ObjectComputer q x e)))
 
   input-output-refused : (i m l : ℕ) (x : Refused) → Headers v k.Environment k.Division i m → Configuration v m l → input_output v l ≡ Err x
       → EnvironmentRefused v i x
@@ -143,10 +143,10 @@ module _ (v : View) where
       (λ q is rest.
       let three = headers-sound v k.InputOutput k.Section l q is in
       so_at-err (required v (header v k.FileControl q) q) (more_selects v []) x G rest
-      (λ e. no_file_control (then _ _ i m q one (then _ _ m l q two three)) (required-err _ q x e))
+      (λ e. no_file_control (both _ _ i m q one (both _ _ m l q two three)) (required-err _ q x e))
       (λ u read e.
       let end = selects-refused u x e in
-      no_select (then _ _ i m u one (then _ _ m l u two (then _ _ l q u three (header-read v k.FileControl q u read)))) end.before
+      no_select (both _ _ i m u one (both _ _ m l u two (both _ _ l q u three (header-read v k.FileControl q u read)))) end.before
       (select-refused end.b end.middle x end.refused)))
 
   pub environment-refused : (i : ℕ) (x : Refused) → environment v i ≡ Err x → EnvironmentRefused v i x

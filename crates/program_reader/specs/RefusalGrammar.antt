@@ -92,7 +92,7 @@ module _ (v : View) (IsSentence : ℕ → ℕ → Sentence → Spot → Type 0) 
     pub is : x ≡ fault v end.at
 
   pub data ParagraphRefused (i n : ℕ) (x : Refused) : Type 0 where
-    header : Unread v (heading v i) i x → ParagraphRefused i n x
+    head : Unread v (heading v i) i x → ParagraphRefused i n x
     body : {m : ℕ} {h : Heading} → IsHeading v i m h → SentencesRefused m n x → ParagraphRefused i n x
 
   pub data ParagraphsRefused : ℕ → ℕ → Refused → Type 0 where
@@ -108,7 +108,7 @@ module _ (v : View) (IsSentence : ℕ → ℕ → Sentence → Spot → Type 0) 
     beyond : {j : ℕ} {ps : List Paragraph} → Chapters v IsSentence i ps j → symbol v.text j ≢ s.End → x ≡ fault v j → ChaptersRefused i x
 
   pub data ProcedureRefused (i : ℕ) (x : Refused) : Type 0 where
-    header : Unread v (headers v k.Procedure k.Division i) i x → ProcedureRefused i x
+    division : Unread v (headers v k.Procedure k.Division i) i x → ProcedureRefused i x
     chapters : {m : ℕ} → Headers v k.Procedure k.Division i m → ChaptersRefused m x → ProcedureRefused i x
 
 -- The words are no program: why the first unit at fault is refused, after the divisions that are read.
