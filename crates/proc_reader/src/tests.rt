@@ -81,6 +81,7 @@ fn show_operand(alloc: Global, operand: &Operand, out: &mut Bytes) -> Result<(),
     }
 }
 
+#[cycle(show_pair)]
 fn show_pair(
     alloc: Global,
     left: &Expr,
@@ -95,6 +96,7 @@ fn show_pair(
     add(out, b")")
 }
 
+#[cycle(show_pair)]
 fn show_expr(alloc: Global, expr: &Expr, out: &mut Bytes) -> Result<(), Memory> {
     match expr {
         Expr::One(operand) => show_operand(alloc, operand, out),
