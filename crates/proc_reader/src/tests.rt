@@ -81,6 +81,7 @@ fn show_operand(alloc: Global, operand: &Operand, out: &mut Bytes) -> Result<(),
     }
 }
 
+#[cycle(show_pair)]
 fn show_pair(
     alloc: Global,
     left: &Expr,
@@ -95,6 +96,7 @@ fn show_pair(
     add(out, b")")
 }
 
+#[cycle(show_pair)]
 fn show_expr(alloc: Global, expr: &Expr, out: &mut Bytes) -> Result<(), Memory> {
     match expr {
         Expr::One(operand) => show_operand(alloc, operand, out),
@@ -258,7 +260,10 @@ fn show_list(alloc: Global, list: &List<Statement>, out: &mut Bytes) -> Result<(
 /// A statement with its number, the positions of its words, and what it does.
 #[cycle(show)]
 fn show_statement(alloc: Global, statement: &Statement, out: &mut Bytes) -> Result<(), Memory> {
-    let text = format!(in alloc; "#{}@{}-{} ", statement.id.number, statement.at, statement.end)?;
+    let text = format!(in alloc;
+        "#{}@{}-{} ",
+        statement.id.number, statement.at, statement.end
+    )?;
     add(out, text.as_bytes())?;
     match &statement.form {
         Form::Move { from, to } => {
@@ -380,30 +385,60 @@ fn read_text(alloc: Global, text: &[u8]) -> Result<Bytes, Memory> {
 #[test]
 fn arithmetic_is_read_as_what_it_computes(rt: HostRuntime) -> Result<(), Fail> {
     for (text, want) in [
-        (b"ADD 1 A TO B .".as_slice(), b"#7@0-5 B=((1+A)+B) 6 8".as_slice()),
-        (b"ADD 1 TO B ROUNDED C END-ADD .", b"#7@0-7 B rounded=(1+B)#8@0-7 C=(1+C) 8 9"),
+        (
+            b"ADD 1 A TO B .".as_slice(),
+            b"#7@0-5 B=((1+A)+B) 6 8".as_slice(),
+        ),
+        (
+            b"ADD 1 TO B ROUNDED C END-ADD .",
+            b"#7@0-7 B rounded=(1+B)#8@0-7 C=(1+C) 8 9",
+        ),
         (b"ADD A B GIVING C D .", b"#7@0-6 C=(A+B)#8@0-6 D=(A+B) 7 9"),
         (b"ADD A TO B GIVING C .", b"#7@0-6 C=(A+B) 7 8"),
         (b"ADD A TO B C GIVING D .", b"shape"),
         (b"ADD TO B .", b"shape"),
         (b"ADD A .", b"shape"),
         (b"SUBTRACT A B FROM C .", b"#7@0-5 C=(C-(A+B)) 6 8"),
-        (b"SUBTRACT A FROM 9 GIVING C END-SUBTRACT .", b"#7@0-7 C=(9-A) 8 8"),
+        (
+            b"SUBTRACT A FROM 9 GIVING C END-SUBTRACT .",
+            b"#7@0-7 C=(9-A) 8 8",
+        ),
         (b"SUBTRACT A FROM 9 .", b"shape"),
         (b"MULTIPLY A BY B C .", b"#7@0-5 B=(A*B)#8@0-5 C=(A*C) 6 9"),
-        (b"MULTIPLY A BY 2 GIVING C END-MULTIPLY .", b"#7@0-7 C=(A*2) 8 8"),
+        (
+            b"MULTIPLY A BY 2 GIVING C END-MULTIPLY .",
+            b"#7@0-7 C=(A*2) 8 8",
+        ),
         (b"MULTIPLY A B BY C .", b"shape"),
         (b"DIVIDE A INTO B .", b"#7@0-4 B=(B/A) 5 8"),
-        (b"DIVIDE A INTO B GIVING C D .", b"#7@0-7 C=(B/A)#8@0-7 D=(B/A) 8 9"),
-        (b"DIVIDE A BY B GIVING C REMAINDER D END-DIVIDE .", b"#7@0-9 C=(A/B) rest D 10 8"),
+        (
+            b"DIVIDE A INTO B GIVING C D .",
+            b"#7@0-7 C=(B/A)#8@0-7 D=(B/A) 8 9",
+        ),
+        (
+            b"DIVIDE A BY B GIVING C REMAINDER D END-DIVIDE .",
+            b"#7@0-9 C=(A/B) rest D 10 8",
+        ),
         (b"DIVIDE A BY B .", b"shape"),
         (b"DIVIDE A INTO B REMAINDER C .", b"shape"),
         (b"DIVIDE A BY B GIVING C D REMAINDER E .", b"shape"),
-        (b"COMPUTE A B ROUNDED = C * 2 END-COMPUTE .", b"#7@0-9 A=(C*2)#8@0-9 B rounded=(C*2) 10 9"),
+        (
+            b"COMPUTE A B ROUNDED = C * 2 END-COMPUTE .",
+            b"#7@0-9 A=(C*2)#8@0-9 B rounded=(C*2) 10 9",
+        ),
         (b"COMPUTE A C .", b"shape"),
-        (b"ADD 1 TO A ON SIZE ERROR STOP RUN NOT ON SIZE ERROR CONTINUE END-ADD .", b"#7@0-15 A=(1+A) [#8@7-9 stop] [#9@13-14 nothing] 16 10"),
-        (b"ADD 1 TO A B SIZE ERROR EXIT .", b"#7@0-8 A=(1+A)#8@0-8 B=(1+B) [#9@7-8 nothing] [] 9 10"),
-        (b"ADD 1 TO A NOT SIZE ERROR EXIT .", b"#7@0-8 A=(1+A) [] [#8@7-8 nothing] 9 9"),
+        (
+            b"ADD 1 TO A ON SIZE ERROR STOP RUN NOT ON SIZE ERROR CONTINUE END-ADD .",
+            b"#7@0-15 A=(1+A) [#8@7-9 stop] [#9@13-14 nothing] 16 10",
+        ),
+        (
+            b"ADD 1 TO A B SIZE ERROR EXIT .",
+            b"#7@0-8 A=(1+A)#8@0-8 B=(1+B) [#9@7-8 nothing] [] 9 10",
+        ),
+        (
+            b"ADD 1 TO A NOT SIZE ERROR EXIT .",
+            b"#7@0-8 A=(1+A) [] [#8@7-8 nothing] 9 9",
+        ),
         (b"ADD 1 TO A ON SIZE ERROR .", b"shape"),
         (b"ADD 1 TO A ON ERROR EXIT .", b"shape"),
         (b"ADD 1 TO A END-SUBTRACT .", b"shape"),
@@ -417,7 +452,10 @@ fn arithmetic_is_read_as_what_it_computes(rt: HostRuntime) -> Result<(), Fail> {
 #[test]
 fn statements_without_others_inside_are_read(rt: HostRuntime) -> Result<(), Fail> {
     for (text, want) in [
-        (b"MOVE A TO B C .".as_slice(), b"#7@0-5 move A B#8@0-5 move A C 6 9".as_slice()),
+        (
+            b"MOVE A TO B C .".as_slice(),
+            b"#7@0-5 move A B#8@0-5 move A C 6 9".as_slice(),
+        ),
         (b"MOVE SPACE TO B .", b"#7@0-4 move figure B 5 8"),
         (b"MOVE A B .", b"shape"),
         (b"MOVE A TO .", b"shape"),
@@ -429,14 +467,20 @@ fn statements_without_others_inside_are_read(rt: HostRuntime) -> Result<(), Fail
         (b"STOP RUN .", b"#7@0-2 stop 3 8"),
         (b"STOP .", b"shape"),
         (b"EXIT CONTINUE . EXIT", b"#7@0-1 nothing#8@1-2 nothing 3 9"),
-        (b"OPEN INPUT F G OUTPUT H .", b"#7@0-6 open input F#8@0-6 open input G#9@0-6 open output H 7 10"),
+        (
+            b"OPEN INPUT F G OUTPUT H .",
+            b"#7@0-6 open input F#8@0-6 open input G#9@0-6 open output H 7 10",
+        ),
         (b"OPEN EXTEND F .", b"#7@0-3 open extend F 4 8"),
         (b"OPEN F .", b"shape"),
         (b"OPEN INPUT .", b"shape"),
         (b"OPEN INPUT F OUTPUT .", b"shape"),
         (b"CLOSE F G .", b"#7@0-3 close F#8@0-3 close G 4 9"),
         (b"CLOSE .", b"shape"),
-        (b"WRITE R FROM A AFTER ADVANCING 2 LINES END-WRITE .", b"#7@0-9 write R from A advance 2 10 8"),
+        (
+            b"WRITE R FROM A AFTER ADVANCING 2 LINES END-WRITE .",
+            b"#7@0-9 write R from A advance 2 10 8",
+        ),
         (b"WRITE R BEFORE PAGE .", b"#7@0-4 write R 5 8"),
         (b"WRITE R AFTER 1 LINE .", b"#7@0-5 write R advance 1 6 8"),
         (b"WRITE R AFTER .", b"shape"),
@@ -448,7 +492,10 @@ fn statements_without_others_inside_are_read(rt: HostRuntime) -> Result<(), Fail
         (b"DISPLAY \"X A ( 1 ) 2 .", b"#7@0-7 show \"X A() 2 8 8"),
         (b"DISPLAY .", b"shape"),
         (b"PERFORM P .", b"#7@0-2 perform P..P [] 3 8"),
-        (b"PERFORM P THRU Q 3 TIMES .", b"#7@0-6 perform P..Q times 3 [] 7 8"),
+        (
+            b"PERFORM P THRU Q 3 TIMES .",
+            b"#7@0-6 perform P..Q times 3 [] 7 8",
+        ),
         (b"EXIT", b"shape"),
         (b".", b"shape"),
         (b"A .", b"shape"),
@@ -465,30 +512,75 @@ fn statements_without_others_inside_are_read(rt: HostRuntime) -> Result<(), Fail
 #[test]
 fn else_when_and_phrases_belong_to_the_nearest_statement(rt: HostRuntime) -> Result<(), Fail> {
     for (text, want) in [
-        (b"IF A = 1 IF B = 2 MOVE 1 TO C ELSE MOVE 2 TO C .".as_slice(), b"#7@0-17 if (A=1)@1-4 [#8@4-17 if (B=2)@5-8 [#9@8-12 move 1 C] [#10@13-17 move 2 C]] [] 18 11".as_slice()),
-        (b"IF A = 1 THEN NEXT SENTENCE ELSE NEXT SENTENCE END-IF .", b"#7@0-11 if (A=1)@1-4 [#8@5-7 next] [#9@8-10 next] 12 10"),
-        (b"IF FLAG EXIT END-IF CONTINUE .", b"#7@0-4 if FLAG@1-2 [#8@2-3 nothing] []#9@4-5 nothing 6 10"),
+        (
+            b"IF A = 1 IF B = 2 MOVE 1 TO C ELSE MOVE 2 TO C .".as_slice(),
+            b"#7@0-17 if (A=1)@1-4 [#8@4-17 if (B=2)@5-8 [#9@8-12 move 1 C] [#10@13-17 move 2 C]] [] 18 11".as_slice(),
+        ),
+        (
+            b"IF A = 1 THEN NEXT SENTENCE ELSE NEXT SENTENCE END-IF .",
+            b"#7@0-11 if (A=1)@1-4 [#8@5-7 next] [#9@8-10 next] 12 10",
+        ),
+        (
+            b"IF FLAG EXIT END-IF CONTINUE .",
+            b"#7@0-4 if FLAG@1-2 [#8@2-3 nothing] []#9@4-5 nothing 6 10",
+        ),
         (b"IF A = 1 THEN .", b"shape"),
         (b"IF FLAG EXIT ELSE .", b"shape"),
-        (b"EVALUATE A WHEN 1 WHEN 2 CONTINUE WHEN OTHER STOP RUN END-EVALUATE .", b"#7@0-12 if (A=1)|(A=2)@3-6 [#8@6-7 nothing] [#9@9-11 stop] 13 10"),
-        (b"EVALUATE TRUE WHEN A = 1 EXIT WHEN FLAG EXIT EXIT WHEN OTHER NEXT SENTENCE .", b"#7@0-15 if (A=1)@3-6 [#8@6-7 nothing] [#9@7-15 if FLAG@8-9 [#10@9-10 nothing#11@10-11 nothing] [#12@13-15 next]] 16 13"),
-        (b"EVALUATE TRUE WHEN FLAG EVALUATE A WHEN 1 EXIT WHEN B = 2 EXIT .", b"#7@0-14 if FLAG@3-4 [#8@4-9 if (A=1)@7-8 [#9@8-9 nothing] []] [#10@9-14 if (B=2)@10-13 [#11@13-14 nothing] []] 15 12"),
+        (
+            b"EVALUATE A WHEN 1 WHEN 2 CONTINUE WHEN OTHER STOP RUN END-EVALUATE .",
+            b"#7@0-12 if (A=1)|(A=2)@3-6 [#8@6-7 nothing] [#9@9-11 stop] 13 10",
+        ),
+        (
+            b"EVALUATE TRUE WHEN A = 1 EXIT WHEN FLAG EXIT EXIT WHEN OTHER NEXT SENTENCE .",
+            b"#7@0-15 if (A=1)@3-6 [#8@6-7 nothing] [#9@7-15 if FLAG@8-9 [#10@9-10 nothing#11@10-11 nothing] [#12@13-15 next]] 16 13",
+        ),
+        (
+            b"EVALUATE TRUE WHEN FLAG EVALUATE A WHEN 1 EXIT WHEN B = 2 EXIT .",
+            b"#7@0-14 if FLAG@3-4 [#8@4-9 if (A=1)@7-8 [#9@8-9 nothing] []] [#10@9-14 if (B=2)@10-13 [#11@13-14 nothing] []] 15 12",
+        ),
         (b"EVALUATE A WHEN OTHER EXIT .", b"shape"),
         (b"EVALUATE A WHEN 1 WHEN OTHER EXIT .", b"shape"),
         (b"EVALUATE A EXIT .", b"shape"),
-        (b"PERFORM P THROUGH Q WITH TEST AFTER UNTIL A = 1 .", b"#7@0-11 perform P..Q after until (A=1)@8-11 [] 12 8"),
-        (b"PERFORM P VARYING I FROM 1 BY 2 UNTIL A = 1 .", b"#7@0-12 perform P..P before vary I,1,2 until (A=1)@9-12 [] 13 8"),
-        (b"PERFORM N TIMES EXIT END-PERFORM .", b"#7@0-5 perform times N [#8@3-4 nothing] 6 9"),
-        (b"PERFORM TEST BEFORE UNTIL FLAG EXIT CONTINUE END-PERFORM .", b"#7@0-8 perform before until FLAG@4-5 [#8@5-6 nothing#9@6-7 nothing] 9 10"),
-        (b"PERFORM EXIT END-PERFORM .", b"#7@0-3 perform [#8@1-2 nothing] 4 9"),
+        (
+            b"PERFORM P THROUGH Q WITH TEST AFTER UNTIL A = 1 .",
+            b"#7@0-11 perform P..Q after until (A=1)@8-11 [] 12 8",
+        ),
+        (
+            b"PERFORM P VARYING I FROM 1 BY 2 UNTIL A = 1 .",
+            b"#7@0-12 perform P..P before vary I,1,2 until (A=1)@9-12 [] 13 8",
+        ),
+        (
+            b"PERFORM N TIMES EXIT END-PERFORM .",
+            b"#7@0-5 perform times N [#8@3-4 nothing] 6 9",
+        ),
+        (
+            b"PERFORM TEST BEFORE UNTIL FLAG EXIT CONTINUE END-PERFORM .",
+            b"#7@0-8 perform before until FLAG@4-5 [#8@5-6 nothing#9@6-7 nothing] 9 10",
+        ),
+        (
+            b"PERFORM EXIT END-PERFORM .",
+            b"#7@0-3 perform [#8@1-2 nothing] 4 9",
+        ),
         (b"PERFORM N TIMES .", b"shape"),
         (b"PERFORM EXIT .", b"shape"),
         (b"PERFORM P VARYING I FROM 1 UNTIL FLAG .", b"shape"),
-        (b"PERFORM WITH AFTER UNTIL FLAG EXIT END-PERFORM .", b"shape"),
-        (b"READ F NEXT RECORD INTO A AT END EXIT NOT AT END CONTINUE END-READ .", b"#7@0-14 read F into A [#8@8-9 nothing] [#9@12-13 nothing] 15 10"),
+        (
+            b"PERFORM WITH AFTER UNTIL FLAG EXIT END-PERFORM .",
+            b"shape",
+        ),
+        (
+            b"READ F NEXT RECORD INTO A AT END EXIT NOT AT END CONTINUE END-READ .",
+            b"#7@0-14 read F into A [#8@8-9 nothing] [#9@12-13 nothing] 15 10",
+        ),
         (b"READ F .", b"#7@0-2 read F 3 8"),
-        (b"READ F END EXIT .", b"#7@0-4 read F [#8@3-4 nothing] [] 5 9"),
-        (b"READ F AT END ADD 1 TO A NOT AT END EXIT .", b"#7@0-12 read F [#8@4-8 A=(1+A)] [#9@11-12 nothing] 13 10"),
+        (
+            b"READ F END EXIT .",
+            b"#7@0-4 read F [#8@3-4 nothing] [] 5 9",
+        ),
+        (
+            b"READ F AT END ADD 1 TO A NOT AT END EXIT .",
+            b"#7@0-12 read F [#8@4-8 A=(1+A)] [#9@11-12 nothing] 13 10",
+        ),
         (b"READ F AT EXIT .", b"shape"),
         (b"READ F INTO 1 .", b"shape"),
     ] {
@@ -517,7 +609,30 @@ fn at_most_64_levels_are_open_at_once(rt: HostRuntime) -> Result<(), Fail> {
     Ok(())
 }
 
-/// The position after an EVALUATE with this many WHEN, and the next number.
+/// How many IF stand in the chain that a statement begins, one in the ELSE of the other. They are taken apart one by
+/// one, since to let go of a long chain at once takes much of the stack.
+fn chain_length(alloc: Global, sentence: Sentence, most: u32) -> u32 {
+    let mut list = sentence.into_statements();
+    let mut length = 0;
+    for turn in 0..most {
+        let mut statements = list.into_vec();
+        list = List::new(alloc);
+        match statements.pop() {
+            None => {}
+            Some(statement) => match statement.into_form().into_if() {
+                Ok((_test, _yes, other)) => {
+                    list = other;
+                    length = turn + 1;
+                }
+                Err(_form) => {}
+            },
+        }
+    }
+    length
+}
+
+/// The length of the chain of IF that an EVALUATE with this many WHEN is read as, the position after it, and the next
+/// number.
 fn read_groups(alloc: Global, count: u32) -> Result<Bytes, Memory> {
     let mut words = List::new(alloc);
     push_all(alloc, &mut words, b"EVALUATE A")?;
@@ -529,12 +644,13 @@ fn read_groups(alloc: Global, count: u32) -> Result<Bytes, Memory> {
         list: List::new(alloc),
     };
     let mut out = List::new(alloc);
-    if words.items().len() >= 4_294_967_296 || words.is_empty() {
+    if words.items().len() >= 4_294_967_296 || words.items().is_empty() {
         return Ok(out);
     }
     match read_sentence(alloc, words.items(), 0, &names, 0, 0) {
-        Ok((_sentence, end, number)) => {
-            let text = format!(in alloc; "{end} {number}")?;
+        Ok((sentence, end, number)) => {
+            let length = chain_length(alloc, sentence, count);
+            let text = format!(in alloc; "{length} {end} {number}")?;
             add(&mut out, text.as_bytes())?;
         }
         Err(_) => {}
@@ -545,6 +661,6 @@ fn read_groups(alloc: Global, count: u32) -> Result<Bytes, Memory> {
 #[test]
 fn a_long_chain_of_when_is_read(rt: HostRuntime) -> Result<(), Fail> {
     let got = read_groups(rt.alloc(), 20_000)?;
-    assert_eq!(rt; got.items(), b"60003 40000".as_slice());
+    assert_eq!(rt; got.items(), b"20000 60003 40000".as_slice());
     Ok(())
 }
