@@ -1,18 +1,17 @@
 use Rattle.std.proofs.Common.{◌≡◌, ℕ, Bool, if◌then◌else◌, List, Option, inl, inr, sym, ◌∙◌, subst}
 use Rattle.shelf.specs.Contents.{Files}
 use Rattle.answers.specs.Said.{IsSaid}
-use Rattle.label_command.specs.declared.form.Program.{Program}
-use Rattle.label_command.specs.Answer.{AreLabels, IsAnswered}
+use Rattle.label_command.specs.Answer.{AreLabelsOf, IsAnswered}
 use Rattle.label_command.proofs.command.label_one.Goals as goal
 
-answered : (source item : List ℕ) (told : Option Files) (before after : Option (List ℕ)) (program : Program) (clean : Bool)
-    (text said : List ℕ) (wanted status : ℕ) → AreLabels program item clean text → wanted ≡ (if clean then 0 else 1) → said ≡ text
+answered : (source item : List ℕ) (told : Option Files) (before after : Option (List ℕ)) (clean : Bool)
+    (text said : List ℕ) (wanted status : ℕ) → AreLabelsOf source item told clean text → wanted ≡ (if clean then 0 else 1) → said ≡ text
     → IsSaid wanted said before after status → IsAnswered source item told before after status
-answered source item told before after program clean text said wanted status labels is same (inl printed) =
-    inl (said, printed.1, inl (program, clean, subst (AreLabels program item clean) (sym same) labels, printed.0 ∙ is))
-answered source item told before after program clean text said wanted status labels is same (inr fault) = inr fault
+answered source item told before after clean text said wanted status labels is same (inl printed) =
+    inl (said, printed.1, inl (clean, subst (AreLabelsOf source item told clean) (sym same) labels, printed.0 ∙ is))
+answered source item told before after clean text said wanted status labels is same (inr fault) = inr fault
 
 pub returns-in-Ok-clause-answer : goal.returns-in-Ok-clause-answer
 returns-in-Ok-clause-answer g c =
-    answered c.args.source.now c.args.item.now _ _ _ c.in-Ok.ensures.labels.0 c.in-Ok.labels.clean _ _ _ _
-    c.in-Ok.ensures.labels.1 c.status_for.ensures c.as_str.ensures.value c.say.ensures.said
+    answered c.args.source.now c.args.item.now _ _ _ c.in-Ok.labels.clean _ _ _ _
+    c.in-Ok.ensures.labels c.status_for.ensures c.as_str.ensures.value c.say.ensures.said

@@ -1,7 +1,7 @@
 use Rattle.std.proofs.Common.{◌≡◌, List, ℕ, None, sym, ◌∙◌, ap}
 use Rattle.label_command.specs.declared.form.ItemEntry.{ItemEntry}
 use Rattle.label_command.specs.Years.{year_area_of}
-use Rattle.label_command.proofs.command.labels_of_program.Goals as goal
+use Rattle.label_command.proofs.command.labels_of_plain.Goals as goal
 
 pub returns-in-None-clause-cause : goal.returns-in-None-clause-cause
 returns-in-None-clause-cause c = (
