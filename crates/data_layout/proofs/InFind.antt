@@ -1,13 +1,12 @@
 -- What a name means, step by step.
-use Rattle.std.proofs.Common.{◌≡◌, ℕ, zero, suc, ◌+◌, Bool, List, [], ◌∷◌, refl, sym, ap, ◌∙◌, arith, Option, Some, None, if◌then◌else◌}
+use Rattle.std.proofs.Common.{◌≡◌, ℕ, zero, suc, ◌+◌, List, refl, sym, ap, ◌∙◌, arith, Option, Some, None}
 use Rattle.std.specs.Prelude.{slice_get}
 use Rattle.y2k_base.specs.declared.place.AreaId.{AreaId}
 use Rattle.data_layout.specs.declared.item.Item.{Item}
-use Rattle.data_layout.specs.declared.item.CondItem.{CondItem}
 use Rattle.data_layout.specs.declared.item.Area.{Area}
 use Rattle.data_layout.specs.declared.found.Found.{Found}
 use Rattle.data_layout.specs.declared.found.Found.TheVariants as found
-use Rattle.data_layout.specs.Find.{with, unless, among_items, among_conds, is_in, ends, holder_of, left_after, group_name}
+use Rattle.data_layout.specs.Find.{with, unless, is_in, ends, holder_of, left_after, group_name}
 
 unless-both : (one y z : Found) → unless (unless one y) z ≡ unless one (with y z)
 unless-both one found.Unknown z = refl

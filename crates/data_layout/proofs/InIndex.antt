@@ -1,5 +1,5 @@
 -- An index of names: one thing more, and what it has at the end.
-use Rattle.std.proofs.Common.{◌≡◌, ℕ, zero, suc, ◌+◌, Bool, true, false, cond, ◌&&◌, List, [], ◌∷◌, ◌++◌, length, refl, sym, ap, ◌∙◌, subst, arith, append_assoc, length-append, Option, Some, None, if◌then◌else◌}
+use Rattle.std.proofs.Common.{◌≡◌, ℕ, ◌+◌, Bool, true, false, cond, ◌&&◌, List, [], ◌∷◌, ◌++◌, length, refl, sym, ap, ◌∙◌, subst, arith, append_assoc, length-append, Option, Some, None, if◌then◌else◌}
 use Rattle.std.specs.Prelude.{slice_get}
 use Rattle.std.specs.declared.cmp.Ordering.{Ordering}
 use Rattle.std.specs.declared.cmp.Ordering.TheVariants.{Less, Equal, Greater}
@@ -89,7 +89,7 @@ other_name name other xs differ h =
 
 -- what was put after what was taken
 pub put-taken : (before middle after : List ℕ → List Found) (name : List ℕ) (taken list : List Found) (one : Found) (other : List ℕ) → taken ≡ before name → ((x : List ℕ) → bytes_eq name x ≡ false → middle x ≡ before x)
-  → list ≡ taken ++ one ∷ [] → ((x : List ℕ) → after x ≡ (if bytes_eq name x then list else middle x)) → after other ≡ with_found before name one other
+    → list ≡ taken ++ one ∷ [] → ((x : List ℕ) → after x ≡ (if bytes_eq name x then list else middle x)) → after other ≡ with_found before name one other
 put-taken before middle after name taken list one other is others longer puts =
     puts other ∙ elim (bytes_eq name other) as (λ (b : Bool). bytes_eq name other ≡ b → (if b then list else middle other) ≡ (if b then before other ++ one ∷ [] else before other)) [
       | true ↦ λ e. longer ∙ ap (λ (l : List Found). l ++ one ∷ []) (is ∙ ap before ((bytes_eq-Decides name other).0 e))
@@ -149,7 +149,7 @@ module _ (layout : Layout) (name : List ℕ) (qualifiers : List (List ℕ)) wher
       ∙ sym (with-with (qualified layout qualifiers x) (among layout qualifiers xs) (among layout qualifiers ys))
 
   one-item : (item : Item) (n : ℕ) → slice_get layout.items n ≡ Some item
-    → among layout qualifiers (if has_name item.name name then found.Item n ∷ [] else []) ≡ (if item_fits layout name qualifiers item then found.Item n else found.Unknown)
+      → among layout qualifiers (if has_name item.name name then found.Item n ∷ [] else []) ≡ (if item_fits layout name qualifiers item then found.Item n else found.Unknown)
   one-item item n at =
       elim (has_name item.name name) as (λ (b : Bool). among layout qualifiers (if b then found.Item n ∷ [] else []) ≡ (if b && is_in (length layout.items) layout.items layout.areas item.span.area item.parent qualifiers then found.Item n else found.Unknown)) [
         | true ↦ with-none (qualified layout qualifiers (found.Item n)) ∙ ap (λ (o : Option Item). if item_in layout qualifiers o then found.Item n else found.Unknown) at
@@ -157,7 +157,7 @@ module _ (layout : Layout) (name : List ℕ) (qualifiers : List (List ℕ)) wher
       ]
 
   one-cond : (c : CondItem) (n : ℕ) → slice_get layout.conds n ≡ Some c
-    → among layout qualifiers (if bytes_eq c.name name then found.Named n ∷ [] else []) ≡ (if cond_fits layout name qualifiers c then found.Named n else found.Unknown)
+      → among layout qualifiers (if bytes_eq c.name name then found.Named n ∷ [] else []) ≡ (if cond_fits layout name qualifiers c then found.Named n else found.Unknown)
   one-cond c n at =
       elim (bytes_eq c.name name) as (λ (b : Bool). among layout qualifiers (if b then found.Named n ∷ [] else []) ≡ (if b && is_in (length layout.items) layout.items layout.areas (area_of (slice_get layout.items c.item)) (Some c.item) qualifiers then found.Named n else found.Unknown)) [
         | true ↦ with-none (qualified layout qualifiers (found.Named n)) ∙ ap (λ (o : Option CondItem). if cond_in layout qualifiers o then found.Named n else found.Unknown) at
@@ -165,7 +165,7 @@ module _ (layout : Layout) (name : List ℕ) (qualifiers : List (List ℕ)) wher
       ]
 
   all-items : (front : List Item) (n : ℕ) (items : List Item) → layout.items ≡ front ++ items → n ≡ length front
-    → among layout qualifiers (named_items name n items) ≡ among_items (item_fits layout name qualifiers) n items
+      → among layout qualifiers (named_items name n items) ≡ among_items (item_fits layout name qualifiers) n items
   all-items front n [] is at = refl
   all-items front n (item ∷ items) is at =
       among-both (if has_name item.name name then found.Item n ∷ [] else []) (named_items name (n + 1) items)
@@ -174,7 +174,7 @@ module _ (layout : Layout) (name : List ℕ) (qualifiers : List (List ℕ)) wher
       (all-items (front ++ item ∷ []) (n + 1) items (is ∙ sym (append_assoc front (item ∷ []) items)) (next-number front item n at))
 
   all-conds : (front : List CondItem) (n : ℕ) (conds : List CondItem) → layout.conds ≡ front ++ conds → n ≡ length front
-    → among layout qualifiers (named_conds name n conds) ≡ among_conds (cond_fits layout name qualifiers) n conds
+      → among layout qualifiers (named_conds name n conds) ≡ among_conds (cond_fits layout name qualifiers) n conds
   all-conds front n [] is at = refl
   all-conds front n (c ∷ conds) is at =
       among-both (if bytes_eq c.name name then found.Named n ∷ [] else []) (named_conds name (n + 1) conds)
@@ -195,33 +195,33 @@ chosen true list others = refl
 chosen false list others = refl
 
 pub others-stay : {K : Type 0} (es : List (K × List Found)) (bytes : K → List ℕ) (name other : List ℕ) → bytes_eq name other ≡ false
-  → lookup (λ (k : K). is_eq (slice_cmp nat_cmp other (bytes k))) (remove_entry (λ (k : K). is_eq (slice_cmp nat_cmp name (bytes k))) es) ≡ lookup (λ (k : K). is_eq (slice_cmp nat_cmp other (bytes k))) es
+    → lookup (λ (k : K). is_eq (slice_cmp nat_cmp other (bytes k))) (remove_entry (λ (k : K). is_eq (slice_cmp nat_cmp name (bytes k))) es) ≡ lookup (λ (k : K). is_eq (slice_cmp nat_cmp other (bytes k))) es
 others-stay {K} es bytes name other differ_names =
     lookup-remove (λ (k : K). is_eq (slice_cmp nat_cmp name (bytes k))) (λ (k : K). is_eq (slice_cmp nat_cmp other (bytes k)))
     (λ x h. other_name name other (bytes x) differ_names h) es
 
 pub put-one : {K : Type 0} (es : List (K × List Found)) (bytes : K → List ℕ) (key : K) (name other : List ℕ) (list : List Found) → bytes key ≡ name
-  → list_or_none (lookup (λ (k : K). is_eq (slice_cmp nat_cmp other (bytes k))) (insert_entry (λ (a b : K). slice_cmp nat_cmp (bytes a) (bytes b)) es key list))
+    → list_or_none (lookup (λ (k : K). is_eq (slice_cmp nat_cmp other (bytes k))) (insert_entry (λ (a b : K). slice_cmp nat_cmp (bytes a) (bytes b)) es key list))
     ≡ (if bytes_eq name other then list else list_or_none (lookup (λ (k : K). is_eq (slice_cmp nat_cmp other (bytes k))) es))
 put-one {K} es bytes key name other list is =
     ap list_or_none (lookup-insert (λ (a b : K). slice_cmp nat_cmp (bytes a) (bytes b)) (λ (k : K). is_eq (slice_cmp nat_cmp other (bytes k)))
-        (λ x y. are_alike other (bytes x) (bytes y)) (λ x y. are_exact other (bytes x) (bytes y)) es key list)
+    (λ x y. are_alike other (bytes x) (bytes y)) (λ x y. are_exact other (bytes x) (bytes y)) es key list)
     ∙ ap (λ (b : Bool). list_or_none (cond b (Some list) (lookup (λ (k : K). is_eq (slice_cmp nat_cmp other (bytes k))) es)))
-        (ap (λ (xs : List ℕ). is_eq (slice_cmp nat_cmp other xs)) is ∙ is_eq-slice_cmp other name ∙ flipped other name)
+    (ap (λ (xs : List ℕ). is_eq (slice_cmp nat_cmp other xs)) is ∙ is_eq-slice_cmp other name ∙ flipped other name)
     ∙ chosen (bytes_eq name other) list (lookup (λ (k : K). is_eq (slice_cmp nat_cmp other (bytes k))) es)
 
 pub items-more : (before after : List ℕ → List Found) (n : ℕ) (rest more : List Item) (item : Item) → rest ≡ item ∷ more → after ≡ with_named before item.name (found.Item n)
-  → with_items after (n + 1) more ≡ with_items before n rest
+    → with_items after (n + 1) more ≡ with_items before n rest
 items-more before after n rest more item splits is =
     ap (λ (f : List ℕ → List Found). with_items f (n + 1) more) is ∙ ap (λ (l : List Item). with_items before n l) (sym splits)
 
 pub conds-more : (before after : List ℕ → List Found) (n : ℕ) (rest more : List CondItem) (c : CondItem) → rest ≡ c ∷ more → after ≡ with_found before c.name (found.Named n)
-  → with_conds after (n + 1) more ≡ with_conds before n rest
+    → with_conds after (n + 1) more ≡ with_conds before n rest
 conds-more before after n rest more c splits is =
     ap (λ (f : List ℕ → List Found). with_conds f (n + 1) more) is ∙ ap (λ (l : List CondItem). with_conds before n l) (sym splits)
 
 pub thing-more : (layout : Layout) (qualifiers : List (List ℕ)) (x y z : Found) (rest more : List Found) (thing : Found) → rest ≡ thing ∷ more → y ≡ with x z → z ≡ qualified layout qualifiers thing
-  → with y (among layout qualifiers more) ≡ with x (among layout qualifiers rest)
+    → with y (among layout qualifiers more) ≡ with x (among layout qualifiers rest)
 thing-more layout qualifiers x y z rest more thing splits is one =
     ap (λ (f : Found). with f (among layout qualifiers more)) (is ∙ ap (λ (f : Found). with x f) one)
     ∙ with-with x (qualified layout qualifiers thing) (among layout qualifiers more)

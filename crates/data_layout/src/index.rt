@@ -72,12 +72,7 @@ impl Index {
         Ok(())
     }
 
-    fn add_named(
-        &mut self,
-        alloc: Global,
-        name: &Option<Bytes>,
-        found: Found,
-    ) -> Result<(), Memory>
+    fn add_named(&mut self, alloc: Global, name: &Option<Bytes>, found: Found) -> Result<(), Memory>
         ensures { OnOk result (spec.held self.new ≡ spec.with_named (spec.held self.old) name.now found) }
     {
         match name {
