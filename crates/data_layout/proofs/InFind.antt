@@ -1,13 +1,12 @@
 -- What a name means, step by step.
-use Rattle.std.proofs.Common.{◌≡◌, ℕ, zero, suc, ◌+◌, Bool, List, [], ◌∷◌, refl, sym, ap, ◌∙◌, arith, Option, Some, None, if◌then◌else◌}
+use Rattle.std.proofs.Common.{◌≡◌, ℕ, zero, suc, ◌+◌, List, refl, sym, ap, ◌∙◌, arith, Option, Some, None}
 use Rattle.std.specs.Prelude.{slice_get}
 use Rattle.y2k_base.specs.declared.place.AreaId.{AreaId}
 use Rattle.data_layout.specs.declared.item.Item.{Item}
-use Rattle.data_layout.specs.declared.item.CondItem.{CondItem}
 use Rattle.data_layout.specs.declared.item.Area.{Area}
-use Rattle.data_layout.specs.declared.find.Found.{Found}
-use Rattle.data_layout.specs.declared.find.Found.TheVariants as found
-use Rattle.data_layout.specs.Find.{with, unless, among_items, among_conds, is_in, ends, holder_of, left_after, group_name}
+use Rattle.data_layout.specs.declared.found.Found.{Found}
+use Rattle.data_layout.specs.declared.found.Found.TheVariants as found
+use Rattle.data_layout.specs.Find.{with, unless, is_in, ends, holder_of, left_after, group_name}
 
 unless-both : (one y z : Found) → unless (unless one y) z ≡ unless one (with y z)
 unless-both one found.Unknown z = refl
@@ -55,20 +54,6 @@ with-none (found.Item k) = refl
 with-none (found.Named k) = refl
 with-none found.Twice = refl
 
-pub item-more : (fits : Item → Bool) (x y z : Found) (n : ℕ) (rest more : List Item) (item : Item) → rest ≡ item ∷ more → y ≡ with x z → z ≡ (if fits item then found.Item n else found.Unknown)
-    → with y (among_items fits (n + 1) more) ≡ with x (among_items fits n rest)
-item-more fits x y z n rest more item splits is one =
-    ap (λ (f : Found). with f (among_items fits (n + 1) more)) (is ∙ ap (λ (f : Found). with x f) one)
-    ∙ with-with x (if fits item then found.Item n else found.Unknown) (among_items fits (n + 1) more)
-    ∙ ap (λ (l : List Item). with x (among_items fits n l)) (sym splits)
-
-pub cond-more : (fits : CondItem → Bool) (x y z : Found) (n : ℕ) (rest more : List CondItem) (one_more : CondItem) → rest ≡ one_more ∷ more → y ≡ with x z → z ≡ (if fits one_more then found.Named n else found.Unknown)
-    → with y (among_conds fits (n + 1) more) ≡ with x (among_conds fits n rest)
-cond-more fits x y z n rest more one_more splits is one =
-    ap (λ (f : Found). with f (among_conds fits (n + 1) more)) (is ∙ ap (λ (f : Found). with x f) one)
-    ∙ with-with x (if fits one_more then found.Named n else found.Unknown) (among_conds fits (n + 1) more)
-    ∙ ap (λ (l : List CondItem). with x (among_conds fits n l)) (sym splits)
-
 pub no-holder : (n : ℕ) (items : List Item) (areas : List Area) (id : AreaId) (qualifiers : List (List ℕ)) → is_in n items areas id None qualifiers ≡ ends areas id qualifiers
 no-holder zero items areas id qualifiers = refl
 no-holder (suc n) items areas id qualifiers = refl
@@ -87,9 +72,3 @@ at-none n items areas id outer left here = sym (ap (λ (o : Option ℕ). is_in n
 
 pub at-last : (n : ℕ) (items : List Item) (areas : List Area) (id : AreaId) (outer : Option ℕ) (left : List (List ℕ)) → n ≡ 0 → ends areas id left ≡ is_in n items areas id outer left
 at-last n items areas id outer left none = sym (ap (λ (x : ℕ). is_in x items areas id outer left) none)
-
-pub ended-items : (fits : Item → Bool) (x : Found) (n : ℕ) (rest : List Item) → rest ≡ [] → with x (among_items fits n rest) ≡ x
-ended-items fits x n rest none = ap (λ (l : List Item). with x (among_items fits n l)) none ∙ with-none x
-
-pub ended-conds : (fits : CondItem → Bool) (x : Found) (n : ℕ) (rest : List CondItem) → rest ≡ [] → with x (among_conds fits n rest) ≡ x
-ended-conds fits x n rest none = ap (λ (l : List CondItem). with x (among_conds fits n l)) none ∙ with-none x

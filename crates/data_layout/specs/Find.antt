@@ -1,5 +1,5 @@
 -- What a data name with its qualifiers means.
-use Rattle.std.specs.Prelude.{ℕ, zero, suc, ◌+◌, ◌^◌, ◌<◌, ◌≡◌, Bool, true, false, ◌||◌, ◌&&◌, ◌==◌, bytes_eq, List, [], ◌∷◌, length, Option, Some, None, if◌then◌else◌, slice_get, option_map}
+use Rattle.std.specs.Prelude.{ℕ, zero, suc, ◌+◌, ◌≡◌, Bool, true, false, ◌||◌, ◌&&◌, ◌==◌, bytes_eq, List, [], ◌∷◌, length, Option, Some, None, if◌then◌else◌, slice_get, option_map}
 use Rattle.y2k_base.specs.declared.place.Span.{Span}
 use Rattle.y2k_base.specs.declared.place.AreaId.{AreaId}
 use Rattle.data_layout.specs.declared.item.Item.{Item}
@@ -8,8 +8,8 @@ use Rattle.data_layout.specs.declared.item.Area.{Area}
 use Rattle.data_layout.specs.declared.item.Layout.{Layout}
 use Rattle.data_layout.specs.declared.item.Class.{Class}
 use Rattle.data_layout.specs.declared.item.Class.TheVariants as class
-use Rattle.data_layout.specs.declared.find.Found.{Found}
-use Rattle.data_layout.specs.declared.find.Found.TheVariants as found
+use Rattle.data_layout.specs.declared.found.Found.{Found}
+use Rattle.data_layout.specs.declared.found.Found.TheVariants as found
 
 abbrev pub is_group : Class → Bool
 is_group class.Group = true
@@ -97,11 +97,6 @@ meaning layout [] = found.Unknown
 meaning layout (name ∷ qualifiers) =
     with (among_items (item_fits layout name qualifiers) 0 layout.items)
     (among_conds (cond_fits layout name qualifiers) 0 layout.conds)
-
--- what counting and finding ask of a layout, and each that is laid out keeps: numbers of 32 bits
-pub record IsReady (layout : Layout) : Type 0 where
-  pub items : length layout.items < 2 ^ 32
-  pub conds : length layout.conds < 2 ^ 32
 
 -- where the first occurrence of an item stands
 abbrev pub IsPlace : Layout → ℕ → Span → Type 0

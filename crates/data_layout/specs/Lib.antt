@@ -1,5 +1,6 @@
 pub mod Faults
 pub mod Find
+pub mod Index
 pub mod Items
 pub mod Names
 pub mod Number

@@ -1,44 +1,12 @@
-ghost use Rattle.std.specs.Prelude.{◌≡◌, ◌<◌, ◌∷◌, [], length, slice_get, IfSome, IfNone, Some, if◌then◌else◌};
+ghost use Rattle.std.specs.Prelude.{◌≡◌, ◌<◌, ◌∷◌, [], length, slice_get, IfSome, IfNone};
 ghost use Rattle.data_layout.specs.Find as spec;
-ghost use Rattle.data_layout.specs.Find.{IsReady, IsPlace};
-ghost use Rattle.data_layout.specs.declared.find.Found.TheVariants as found;
+ghost use Rattle.data_layout.specs.Find.{IsPlace};
+ghost use Rattle.data_layout.specs.Index as index;
+ghost use Rattle.data_layout.specs.Index.{IsReady};
 
-use crate::item::{Area, Class, CondItem, Item, Layout};
+use crate::found::Found;
+use crate::item::{Area, Class, Item, Layout};
 use y2k_base::{AreaId, Bytes, Span};
-
-/// What a data name means: an item or a condition-name by its number, nothing, or more than one thing.
-#[derive(Clone, Copy, Debug, PartialEq, Eq)]
-pub enum Found {
-    Item(u32),
-    Named(u32),
-    Unknown,
-    Twice,
-}
-
-impl Found {
-    fn with(self, other: Found) -> Found
-        ensures { result ≡ spec.with self other }
-    {
-        match self {
-            Found::Unknown => other,
-            Found::Item(_) => self.unless(other),
-            Found::Named(_) => self.unless(other),
-            Found::Twice => Found::Twice,
-        }
-    }
-
-    /// This, unless there is another.
-    fn unless(self, other: Found) -> Found
-        ensures { result ≡ spec.unless self other }
-    {
-        match other {
-            Found::Unknown => self,
-            Found::Item(_) => Found::Twice,
-            Found::Named(_) => Found::Twice,
-            Found::Twice => Found::Twice,
-        }
-    }
-}
 
 fn is_group(class: Class) -> bool
     ensures { result ≡ spec.is_group class }
@@ -162,23 +130,13 @@ fn is_in(
     last
 }
 
-fn first_item(items: &[Item]) -> Option<(&Item, &[Item])>
-    ensures some { IfSome result (λ first. items.now ≡ first.0.now ∷ first.1.now) }
-    ensures none { IfNone result (items.now ≡ []) }
+fn first_thing(things: &[Found]) -> Option<(Found, &[Found])>
+    ensures some { IfSome result (λ first. things.now ≡ first.0 ∷ first.1.now) }
+    ensures none { IfNone result (things.now ≡ []) }
 {
-    match items {
+    match things {
         [] => None,
-        [item, more @ ..] => Some((item, more)),
-    }
-}
-
-fn first_cond(conds: &[CondItem]) -> Option<(&CondItem, &[CondItem])>
-    ensures some { IfSome result (λ first. conds.now ≡ first.0.now ∷ first.1.now) }
-    ensures none { IfNone result (conds.now ≡ []) }
-{
-    match conds {
-        [] => None,
-        [cond, more @ ..] => Some((cond, more)),
+        [thing, more @ ..] => Some((*thing, more)),
     }
 }
 
@@ -206,92 +164,82 @@ impl Layout {
     {
         match names {
             [] => Found::Unknown,
-            [name, qualifiers @ ..] => {
-                let item = self.among_items(name, qualifiers);
-                let cond = self.among_conds(name, qualifiers);
-                item.with(cond)
-            }
+            [name, qualifiers @ ..] => self.find_name(name, qualifiers),
         }
     }
 
-    fn item_fits(&self, name: &Bytes, qualifiers: &[Bytes], item: &Item) -> bool
-        ensures { result ≡ spec.item_fits self.now name.now qualifiers.now item.now }
+    fn find_name(&self, name: &Bytes, qualifiers: &[Bytes]) -> Found
+        requires { IsReady self.now }
+        ensures { result ≡ spec.meaning self.now (name.now ∷ qualifiers.now) }
     {
-        if has_name(&item.name, name) {
-            let items = self.items.items();
-            is_in(
+        let things = self.index.of_name(name);
+        let found = self.among(things, qualifiers);
+        found
+    }
+
+    /// The one of these things that has the qualifiers.
+    fn among(&self, things: &[Found], qualifiers: &[Bytes]) -> Found
+        ensures { result ≡ index.among self.now qualifiers.now things.now }
+    {
+        let mut found = Found::Unknown;
+        let mut rest = things;
+        while let Some((thing, more)) = first_thing(rest) {
+            let one = self.qualified(thing, qualifiers);
+            found = found.with(one);
+            rest = more;
+        }
+        found
+    }
+
+    fn qualified(&self, thing: Found, qualifiers: &[Bytes]) -> Found
+        ensures { result ≡ index.qualified self.now qualifiers.now thing }
+    {
+        match thing {
+            Found::Item(number) => {
+                if self.item_in(number, qualifiers) {
+                    thing
+                } else {
+                    Found::Unknown
+                }
+            }
+            Found::Named(number) => {
+                if self.cond_in(number, qualifiers) {
+                    thing
+                } else {
+                    Found::Unknown
+                }
+            }
+            Found::Unknown => Found::Unknown,
+            Found::Twice => Found::Unknown,
+        }
+    }
+
+    fn item_in(&self, number: u32, qualifiers: &[Bytes]) -> bool
+        ensures { result ≡ index.item_in self.now qualifiers.now (slice_get self.now.items number) }
+    {
+        let items = self.items.items();
+        match items.get(number as usize) {
+            Some(item) => is_in(
                 items,
                 self.areas.items(),
                 item.span.area,
                 item.parent,
                 qualifiers,
-            )
-        } else {
-            false
+            ),
+            None => false,
         }
     }
 
-    fn cond_fits(&self, name: &Bytes, qualifiers: &[Bytes], cond: &CondItem) -> bool
-        ensures { result ≡ spec.cond_fits self.now name.now qualifiers.now cond.now }
+    fn cond_in(&self, number: u32, qualifiers: &[Bytes]) -> bool
+        ensures { result ≡ index.cond_in self.now qualifiers.now (slice_get self.now.conds number) }
     {
-        if cond.name.items() == name.items() {
-            let items = self.items.items();
-            let id = area_of(items, cond.item);
-            is_in(items, self.areas.items(), id, Some(cond.item), qualifiers)
-        } else {
-            false
+        let items = self.items.items();
+        match self.conds.items().get(number as usize) {
+            Some(cond) => {
+                let id = area_of(items, cond.item);
+                is_in(items, self.areas.items(), id, Some(cond.item), qualifiers)
+            }
+            None => false,
         }
-    }
-
-    fn item_if(&self, name: &Bytes, qualifiers: &[Bytes], item: &Item, number: u32) -> Found
-        ensures { result ≡ (if spec.item_fits self.now name.now qualifiers.now item.now then found.Item number else found.Unknown) }
-    {
-        if self.item_fits(name, qualifiers, item) {
-            Found::Item(number)
-        } else {
-            Found::Unknown
-        }
-    }
-
-    fn cond_if(&self, name: &Bytes, qualifiers: &[Bytes], cond: &CondItem, number: u32) -> Found
-        ensures { result ≡ (if spec.cond_fits self.now name.now qualifiers.now cond.now then found.Named number else found.Unknown) }
-    {
-        if self.cond_fits(name, qualifiers, cond) {
-            Found::Named(number)
-        } else {
-            Found::Unknown
-        }
-    }
-
-    fn among_items(&self, name: &Bytes, qualifiers: &[Bytes]) -> Found
-        requires { IsReady self.now }
-        ensures { result ≡ spec.among_items (spec.item_fits self.now name.now qualifiers.now) 0 self.now.items }
-    {
-        let mut found = Found::Unknown;
-        let mut number = 0;
-        let mut rest = self.items.items();
-        while let Some((item, more)) = first_item(rest) {
-            let one = self.item_if(name, qualifiers, item, number);
-            found = found.with(one);
-            number += 1;
-            rest = more;
-        }
-        found
-    }
-
-    fn among_conds(&self, name: &Bytes, qualifiers: &[Bytes]) -> Found
-        requires { IsReady self.now }
-        ensures { result ≡ spec.among_conds (spec.cond_fits self.now name.now qualifiers.now) 0 self.now.conds }
-    {
-        let mut found = Found::Unknown;
-        let mut number = 0;
-        let mut rest = self.conds.items();
-        while let Some((cond, more)) = first_cond(rest) {
-            let one = self.cond_if(name, qualifiers, cond, number);
-            found = found.with(one);
-            number += 1;
-            rest = more;
-        }
-        found
     }
 }

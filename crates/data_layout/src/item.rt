@@ -1,5 +1,6 @@
 ghost use Rattle.std.specs.Prelude.{◌≡◌, IfOk};
 
+use crate::index::Index;
 use cobol_syntax::{Range, Usage};
 use decimal_bytes::NumForm;
 use std::alloc::Global;
@@ -59,11 +60,12 @@ pub struct Area {
     pub length: u32,
 }
 
-/// The items, condition-names and areas of a program.
+/// The items, condition-names and areas of a program, with an index of the names.
 pub struct Layout {
     pub items: List<Item>,
     pub conds: List<CondItem>,
     pub areas: List<Area>,
+    pub(crate) index: Index,
 }
 
 impl Drop for Item {
@@ -111,6 +113,7 @@ impl Drop for Layout {
             items: _items,
             conds: _conds,
             areas: _areas,
+            index: _index,
         } = self;
     }
 }
@@ -162,16 +165,6 @@ impl Twin for Area {
             name: self.name.twin(alloc)?,
             file: self.file,
             length: self.length,
-        })
-    }
-}
-
-impl Twin for Layout {
-    fn twin(&self, alloc: Global) -> Result<Layout, Memory> {
-        Ok(Layout {
-            items: self.items.twin(alloc)?,
-            conds: self.conds.twin(alloc)?,
-            areas: self.areas.twin(alloc)?,
         })
     }
 }

@@ -3,7 +3,9 @@ ghost use Rattle.data_layout.specs.Tree as tree;
 ghost use Rattle.data_layout.specs.Tree.{within, forest, parts_of, GoesOn};
 ghost use Rattle.data_layout.specs.Sizes as sizes;
 ghost use Rattle.data_layout.specs.Items as spec;
+ghost use Rattle.data_layout.specs.Index.{IsReady, IsIndexOf};
 
+use crate::index::Index;
 use crate::item::{Area, Class, CondItem, Item, Layout, Step};
 use crate::measure::{adds, measure, once};
 use crate::number::{form_of, sum};
@@ -11,6 +13,9 @@ use crate::tree::{NAMED, first_within, rank};
 use cobol_syntax::Entry;
 use std::alloc::Global;
 use y2k_base::{AreaId, Bytes, List, Memory, PicClass, Picture, Span, Twin};
+
+/// How many numbers of 32 bits there are.
+const MANY: usize = 4_294_967_296;
 
 /// What lies round an item: its area, its group, and each OCCURS. `alike` is true where the items side by
 /// side all start alike, as the records of a file do.
@@ -48,14 +53,32 @@ impl Drop for Sheet {
 }
 
 impl Sheet {
-    pub(crate) fn into_layout(self, areas: List<Area>) -> Layout
-        ensures { result ≡ record { items = self.items; conds = self.conds; areas = areas } }
+    /// The layout with these areas and an index of its names, if its items and condition-names have numbers of
+    /// 32 bits.
+    pub(crate) fn into_layout(self, alloc: Global, areas: List<Area>) -> Result<Layout, Memory>
+        ensures items { IfOk result (λ layout. layout.items ≡ self.items) }
+        ensures conds { IfOk result (λ layout. layout.conds ≡ self.conds) }
+        ensures areas { IfOk result (λ layout. layout.areas ≡ areas) }
+        ensures ready { IfOk result IsReady }
     {
+        let index = self.index(alloc)?;
         let Sheet { items, conds } = self;
-        Layout {
+        Ok(Layout {
             items,
             conds,
             areas,
+            index,
+        })
+    }
+
+    fn index(&self, alloc: Global) -> Result<Index, Memory>
+        ensures { IfOk result (IsIndexOf self.now.items self.now.conds) }
+    {
+        if self.items.len() < MANY && self.conds.len() < MANY {
+            let index = Index::of(alloc, self.items.items(), self.conds.items())?;
+            Ok(index)
+        } else {
+            Err(Memory)
         }
     }
 }

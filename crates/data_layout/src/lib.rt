@@ -5,6 +5,8 @@
 mod check;
 mod fault;
 mod find;
+mod found;
+mod index;
 mod item;
 mod lay;
 mod measure;
@@ -20,7 +22,7 @@ mod values;
 mod whole;
 
 pub use fault::LayoutFault;
-pub use find::Found;
+pub use found::Found;
 pub use item::{Area, Class, CondItem, Item, Layout, Step};
 pub use portfolio::{FileArea, FileUse, ItemRef, Portfolio};
 pub use whole::lay_out;

@@ -2,7 +2,7 @@ ghost use Rattle.std.specs.Prelude.{◌≡◌, ◌+◌, ◌++◌, ◌∷◌, [],
 ghost use Rattle.data_layout.specs.Tree.{parts_of};
 ghost use Rattle.data_layout.specs.Items as items;
 ghost use Rattle.data_layout.specs.Sections as spec;
-ghost use Rattle.data_layout.specs.Find.{IsReady};
+ghost use Rattle.data_layout.specs.Index.{IsReady};
 
 use crate::item::{Area, Layout};
 use crate::lay::{Around, Sheet, cond_of, lay_item, lay_parts, narrow};
@@ -11,9 +11,6 @@ use crate::tree::{NAMED, SINGLE, first_within, rank};
 use cobol_syntax::{Entry, FileEntry, Program};
 use std::alloc::Global;
 use y2k_base::{AreaId, List, Memory, Twin};
-
-/// How many numbers of 32 bits there are.
-const MANY: usize = 4_294_967_296;
 
 /// Whose area comes next in working storage, and those of the last 01 and the last 77 that redefine nothing.
 #[derive(Clone, Copy)]
@@ -244,18 +241,6 @@ fn lay_storage(
     Ok(())
 }
 
-/// The layout, if items and condition-names have numbers of 32 bits.
-fn small(layout: Layout) -> Result<Layout, Memory>
-    ensures same { IfOk result (λ same. same ≡ layout) }
-    ensures ready { IfOk result IsReady }
-{
-    if layout.items.len() < MANY && layout.conds.len() < MANY {
-        Ok(layout)
-    } else {
-        Err(Memory)
-    }
-}
-
 /// The layout of a program whose areas are numbered from that one on.
 pub(crate) fn lay_program(alloc: Global, program: &Program, first: AreaId) -> Result<Layout, Memory>
     ensures layout { IfOk result (spec.IsLayout first program.now) }
@@ -279,6 +264,6 @@ pub(crate) fn lay_program(alloc: Global, program: &Program, first: AreaId) -> Re
         owners,
         program.storage.items(),
     )?;
-    let layout = small(sheet.into_layout(areas))?;
+    let layout = sheet.into_layout(alloc, areas)?;
     Ok(layout)
 }

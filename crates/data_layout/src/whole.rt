@@ -1,7 +1,7 @@
 ghost use Rattle.std.specs.Prelude.{◌≡◌, [], IfOk, IfErr, OnOk};
 ghost use Rattle.data_layout.specs.Sections.{IsLayout};
 ghost use Rattle.data_layout.specs.Faults.{faults_of, IsFirst};
-ghost use Rattle.data_layout.specs.Find.{IsReady};
+ghost use Rattle.data_layout.specs.Index.{IsReady};
 
 use crate::check::check_program;
 use crate::fault::LayoutFault;
