@@ -1,7 +1,7 @@
 use super::*;
 use std::alloc::Global;
 use std::test::Fail;
-use y2k_base::Bytes;
+use y2k_base::{Bytes, List, Memory};
 
 /// Whether the text of a manifest is refused so.
 fn is_refused(alloc: Global, text: &str, kind: ManifestKind, key: &[u8]) -> Result<bool, Fail> {
@@ -90,8 +90,64 @@ fn many_programs(alloc: Global, count: u32) -> Result<String, Fail> {
     Ok(text)
 }
 
-fn is_text(bytes: &Bytes, text: &[u8]) -> bool {
-    bytes.items() == text
+fn add(shown: &mut Bytes, text: &Bytes) -> Result<(), Memory> {
+    shown.push(b',')?;
+    shown.append(text.items())
+}
+
+fn add_all(shown: &mut Bytes, texts: &[Bytes]) -> Result<(), Memory> {
+    for text in texts {
+        add(shown, text)?;
+    }
+    Ok(())
+}
+
+fn add_named(shown: &mut Bytes, list: &[Named]) -> Result<(), Memory> {
+    for named in list {
+        add(shown, &named.key)?;
+        add(shown, &named.name)?;
+    }
+    Ok(())
+}
+
+fn add_number(shown: &mut Bytes, number: u8) -> Result<(), Memory> {
+    shown.push(b',')?;
+    shown.push(b'0' + number / 10)?;
+    shown.push(b'0' + number % 10)
+}
+
+/// All that a manifest has, each after a comma.
+fn shown(alloc: Global, manifest: &Manifest) -> Result<Bytes, Memory> {
+    let mut shown = List::new(alloc);
+    add_number(&mut shown, manifest.version)?;
+    add_number(&mut shown, manifest.pivot)?;
+    add_all(&mut shown, manifest.programs.items())?;
+    add_named(&mut shown, manifest.copybooks.items())?;
+    if let Some(seeds) = &manifest.seeds {
+        add(&mut shown, seeds)?;
+    }
+    for group in manifest.window.items() {
+        add_number(&mut shown, group.pivot)?;
+        add_all(&mut shown, group.items.items())?;
+    }
+    add_named(&mut shown, manifest.files.items())?;
+    for job in manifest.jobs.items() {
+        add(&mut shown, &job.key)?;
+        add_all(&mut shown, job.programs.items())?;
+    }
+    Ok(shown)
+}
+
+/// Whether the text of a manifest is read as this one.
+fn is_read_as(alloc: Global, text: &str, expected: &[u8]) -> Result<bool, Fail> {
+    let table = toml::table_from_str(alloc, text)?;
+    match &read_manifest(alloc, &table) {
+        Ok(manifest) => match shown(alloc, manifest) {
+            Ok(shown) => Ok(shown.items() == expected),
+            Err(_) => Ok(false),
+        },
+        Err(_) => Ok(false),
+    }
 }
 
 /// A manifest of the first version with every key.
@@ -126,41 +182,16 @@ items = [\"A.B\", \"A\"]
 #[test]
 fn a_whole_manifest_is_read(rt: HostRuntime) -> Result<(), Fail> {
     let alloc = rt.alloc();
-    let table = toml::table_from_str(alloc, WHOLE)?;
-    let manifest = match read_manifest(alloc, &table) {
-        Ok(manifest) => manifest,
-        Err(_) => return Err(Fail::from("no manifest")),
-    };
-    assert_eq!(rt; manifest.version, 1);
-    assert_eq!(rt; manifest.pivot, 50);
-    assert!(rt; is_text(&manifest.programs.items()[1], b"REPORTP.cbl"));
-    assert!(rt; is_text(&manifest.copybooks.items()[1].key, b"LIB/B"));
-    assert!(rt; is_text(&manifest.copybooks.items()[1].name, b"b.cpy"));
-    assert!(rt; manifest.seeds.is_some());
-    assert_eq!(rt; manifest.window.len(), 1);
-    assert_eq!(rt; manifest.window.items()[0].pivot, 50);
-    assert!(rt;
-        is_text(
-            &manifest.window.items()[0].items.items()[0],
-            b"SELECTP.HIRED OF IN-REC"
-        )
-    );
-    assert!(rt; is_text(&manifest.files.items()[0].key, b"EMPIN"));
-    assert_eq!(rt; manifest.jobs.items()[1].programs.len(), 3);
+    let whole =
+        b",01,50,SELECTP.cbl,REPORTP.cbl,EMPREC,EMPREC.cpy,LIB/B,b.cpy,seeds.csv,50,SELECTP.HIRED OF IN-REC,EMPIN,empin.dat,REPOUT,out/repout.dat,EMPTY,NIGHT,SELECTP,REPORTP,SELECTP";
+    assert!(rt; is_read_as(alloc, WHOLE, whole)?);
     Ok(())
 }
 
 #[test]
 fn a_window_goes_by_the_version(rt: HostRuntime) -> Result<(), Fail> {
     let alloc = rt.alloc();
-    let table = toml::table_from_str(alloc, GROUPS)?;
-    let manifest = match read_manifest(alloc, &table) {
-        Ok(manifest) => manifest,
-        Err(_) => return Err(Fail::from("no manifest")),
-    };
-    assert_eq!(rt; manifest.window.len(), 2);
-    assert_eq!(rt; manifest.window.items()[1].pivot, 99);
-    assert_eq!(rt; manifest.window.items()[1].items.len(), 2);
+    assert!(rt; is_read_as(alloc, GROUPS, b",02,50,A.cbl,01,99,A.B,A")?);
     assert!(rt; reads(alloc, "window = []")?);
     assert!(rt; has_bad_value(alloc, "window = [\"A.B\"]", b"window")?);
     assert!(rt; has_bad_value(alloc, "window = [{ pivot = 5 }]", b"window")?);
