@@ -81,7 +81,6 @@ fn show_operand(alloc: Global, operand: &Operand, out: &mut Bytes) -> Result<(),
     }
 }
 
-#[cycle(show_pair)]
 fn show_pair(
     alloc: Global,
     left: &Expr,
@@ -96,7 +95,6 @@ fn show_pair(
     add(out, b")")
 }
 
-#[cycle(show_pair)]
 fn show_expr(alloc: Global, expr: &Expr, out: &mut Bytes) -> Result<(), Memory> {
     match expr {
         Expr::One(operand) => show_operand(alloc, operand, out),
@@ -104,10 +102,34 @@ fn show_expr(alloc: Global, expr: &Expr, out: &mut Bytes) -> Result<(), Memory> 
             add(out, b"-")?;
             show_expr(alloc, inner.get(), out)
         }
-        Expr::Add(left, right) => show_pair(alloc, left.get(), b"+", right.get(), out),
-        Expr::Sub(left, right) => show_pair(alloc, left.get(), b"-", right.get(), out),
-        Expr::Mul(left, right) => show_pair(alloc, left.get(), b"*", right.get(), out),
-        Expr::Div(left, right) => show_pair(alloc, left.get(), b"/", right.get(), out),
+        Expr::Add(left, right) => {
+            add(out, b"(")?;
+            show_expr(alloc, left.get(), out)?;
+            add(out, b"+")?;
+            show_expr(alloc, right.get(), out)?;
+            add(out, b")")
+        }
+        Expr::Sub(left, right) => {
+            add(out, b"(")?;
+            show_expr(alloc, left.get(), out)?;
+            add(out, b"-")?;
+            show_expr(alloc, right.get(), out)?;
+            add(out, b")")
+        }
+        Expr::Mul(left, right) => {
+            add(out, b"(")?;
+            show_expr(alloc, left.get(), out)?;
+            add(out, b"*")?;
+            show_expr(alloc, right.get(), out)?;
+            add(out, b")")
+        }
+        Expr::Div(left, right) => {
+            add(out, b"(")?;
+            show_expr(alloc, left.get(), out)?;
+            add(out, b"/")?;
+            show_expr(alloc, right.get(), out)?;
+            add(out, b")")
+        }
     }
 }
 
