@@ -100,7 +100,7 @@ fn entry_of(alloc: Global, text: &[u8], at: u32) -> Result<Entry, Memory> {
     let mut place = 0_u32;
     for word in text.split(|byte| *byte == b' ') {
         match place {
-            0 => entry.level = number_of(word) as u8,
+            0 => entry.level = u8::try_from(number_of(word)).unwrap_or(255),
             1 if word != b"-".as_slice() => entry.name = Some(bytes_of(alloc, word)?),
             1 => {}
             _ => add_clause(alloc, &mut entry, word)?,
@@ -112,7 +112,7 @@ fn entry_of(alloc: Global, text: &[u8], at: u32) -> Result<Entry, Memory> {
 
 /// One more word, on a line of its own. Gives its position.
 fn add_word(alloc: Global, words: &mut List<Word>) -> Result<u32, Memory> {
-    let at = words.len() as u32;
+    let at = u32::try_from(words.len()).map_err(|_| Memory)?;
     words.push(Word {
         text: List::new(alloc),
         kind: WordKind::Number,

@@ -1,5 +1,5 @@
 -- The program that a text is, or why it is none.
-use Rattle.std.specs.Prelude.{◌≡◌, List, ℕ, []}
+use Rattle.std.specs.Prelude.{◌≡◌, ◌⊎◌, List, ℕ, []}
 use Rattle.y2k_base.specs.declared.word.FileId.{FileId}
 use Rattle.y2k_base.specs.declared.word.Origin.{Origin}
 use Rattle.y2k_base.specs.declared.word.Word.{Word}
@@ -50,16 +50,32 @@ IsTreeOfWords words tree = (expanded : List Word) × IsExpansion words [] expand
 abbrev pub IsTree : List ℕ → Program → Type 0
 IsTree bytes tree = (words : List Word) × AreWords bytes words × IsTreeOfWords words tree
 
--- Why they are none.
-pub data IsRefusedExpansion (words : List Word) : Refusal → Type 0 where
-  refused : {k : RefusedKind} {at : Origin} → IsRefusal words 0 the_text (read.Refused (record { kind = k; at = at })) → IsRefusedExpansion words (r.At k at)
-  no_memory : IsRefusedExpansion words r.Memory
+-- Why they are none: the refusal of the reader, of the expansion, of the lines.
+abbrev pub IsRefusedExpansion : List Word → Refusal → Type 0
+IsRefusedExpansion words (r.At k at) = IsRefusal words 0 the_text (read.Refused (record { kind = k; at = at }))
+IsRefusedExpansion words r.Memory = Unit {0}
+IsRefusedExpansion words _ = ⊥
 
-pub data IsRefusedWords (words : List Word) : Refusal → Type 0 where
-  copied : {fault : CopyFault} → HasCopyFault words [] fault → IsRefusedWords words (copy_refusal fault)
-  expanded : {expansion : List Word} {refusal : Refusal} → IsExpansion words [] expansion → IsRefusedExpansion expansion refusal → IsRefusedWords words refusal
+abbrev pub IsCopyRefusal : List Word → Refusal → Type 0
+IsCopyRefusal words (r.At kind.CopyShape at) = HasCopyFault words [] (copy.CopyShape at)
+IsCopyRefusal words (r.At kind.CopyMissing at) = HasCopyFault words [] (copy.CopyMissing at)
+IsCopyRefusal words (r.At kind.NestedCopy at) = HasCopyFault words [] (copy.NestedCopy at)
+IsCopyRefusal words r.Memory = Unit {0}
+IsCopyRefusal words _ = ⊥
 
-pub data IsRefusedText (bytes : List ℕ) : Refusal → Type 0 where
-  lined : {k : LineKind} {at : Origin} → IsFirstFault the_text bytes (line_fault.At k at) → IsRefusedText bytes (r.At (line_kind k) at)
-  worded : {words : List Word} {refusal : Refusal} → AreWords bytes words → IsRefusedWords words refusal → IsRefusedText bytes refusal
-  no_memory : IsRefusedText bytes r.Memory
+abbrev pub IsLineRefusal : List ℕ → Refusal → Type 0
+IsLineRefusal bytes (r.At kind.BadByte at) = IsFirstFault the_text bytes (line_fault.At line.BadByte at)
+IsLineRefusal bytes (r.At kind.LineLong at) = IsFirstFault the_text bytes (line_fault.At line.LineLong at)
+IsLineRefusal bytes (r.At kind.OpenLiteral at) = IsFirstFault the_text bytes (line_fault.At line.OpenLiteral at)
+IsLineRefusal bytes (r.At kind.BadContinuation at) = IsFirstFault the_text bytes (line_fault.At line.BadContinuation at)
+IsLineRefusal bytes (r.At kind.WordLong at) = IsFirstFault the_text bytes (line_fault.At line.WordLong at)
+IsLineRefusal bytes r.Memory = Unit {0}
+IsLineRefusal bytes _ = ⊥
+
+abbrev pub IsRefusedWords : List Word → Refusal → Type 0
+IsRefusedWords words refusal =
+    IsCopyRefusal words refusal ⊎ ((expanded : List Word) × IsExpansion words [] expanded × IsRefusedExpansion expanded refusal)
+
+abbrev pub IsRefusedText : List ℕ → Refusal → Type 0
+IsRefusedText bytes refusal =
+    IsLineRefusal bytes refusal ⊎ ((words : List Word) × AreWords bytes words × IsRefusedWords words refusal)
