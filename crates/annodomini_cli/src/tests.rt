@@ -231,14 +231,30 @@ fn a_program_without_a_reading_is_refused_at_its_unit(rt: HostRuntime) -> Result
     let more = nested(alloc, 65)?;
     let cases: [(&str, &str, &str); 9] = [
         (one, "           CALL \"X\".\n", "UnitShape ONE.cbl:8:12"),
-        (one, "           CONTINUE. MOVE A TO 1.\n", "UnitShape ONE.cbl:8:22"),
+        (
+            one,
+            "           CONTINUE. MOVE A TO 1.\n",
+            "UnitShape ONE.cbl:8:22",
+        ),
         (one, more.as_str(), "NestDeep ONE.cbl:8:12"),
         (one, most.as_str(), "NotYetRead ONE.cbl:8:12"),
-        ("       01  A PIC 9(2) PIC 9.\n", "", "UnitShape ONE.cbl:5:8"),
+        (
+            "       01  A PIC 9(2) PIC 9.\n",
+            "",
+            "UnitShape ONE.cbl:5:8",
+        ),
         ("       50  A PIC 9(2).\n", "", "UnitShape ONE.cbl:5:8"),
         ("       01  A PIC Q.\n", "", "PictureShape ONE.cbl:5:18"),
-        ("       01  A PIC 9(19).\n", "", "TooManyDigits ONE.cbl:5:18"),
-        ("       01  A COMP PIC 9(2).\n", "", "NotYetRead ONE.cbl:5:8"),
+        (
+            "       01  A PIC 9(19).\n",
+            "",
+            "TooManyDigits ONE.cbl:5:18",
+        ),
+        (
+            "       01  A COMP PIC 9(2).\n",
+            "",
+            "NotYetRead ONE.cbl:5:8",
+        ),
     ];
     for (entries, statements, refusal) in cases {
         let text = program(alloc, entries, statements)?;

@@ -10,10 +10,10 @@ ghost use Rattle.label_command.specs.Rules.{rule_for};
 ghost use Rattle.label_command.specs.Years.{year_seeds_of};
 
 use crate::form::{MoveEntry, PlainProgram};
+use crate::plain::{NotLabelled, plain_program};
 use crate::print::label_lines;
 use crate::refusal::{Refusal, refuse};
 use crate::rules::rules_of;
-use crate::plain::{NotLabelled, plain_program};
 use crate::year::{year_area, year_seeds};
 use answers::{CONFLICT, DONE, say};
 use cobol_syntax::Program;

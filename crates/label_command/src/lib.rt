@@ -4,10 +4,10 @@
 
 mod command;
 mod form;
+mod plain;
 mod print;
 mod refusal;
 mod rules;
-mod plain;
 mod year;
 
 pub use command::label_one;

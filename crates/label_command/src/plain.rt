@@ -2,10 +2,8 @@ ghost use Rattle.std.specs.Prelude.{◌≡◌, ◌<◌, ◌≤◌, length, IfSom
 ghost use Rattle.std.specs.List.{position};
 ghost use Rattle.label_command.specs.Years.{is_named};
 
-use crate::form::{ItemEntry, MoveEntry, Shape, PlainProgram};
-use cobol_syntax::{
-    Entry, Form, Operand, Paragraph, Place, Program, Sentence, Statement, Usage,
-};
+use crate::form::{ItemEntry, MoveEntry, PlainProgram, Shape};
+use cobol_syntax::{Entry, Form, Operand, Paragraph, Place, Program, Sentence, Statement, Usage};
 use decimal_bytes::SignPlace;
 use std::alloc::Global;
 use y2k_base::{Bytes, FileId, List, Memory, Origin, PicClass, Picture, Run, Word};
@@ -60,7 +58,11 @@ const FIRST: Origin = Origin {
     column: 1,
 };
 
-fn items_of(alloc: Global, words: &[Word], entries: &[Entry]) -> Result<List<ItemEntry>, NotLabelled> {
+fn items_of(
+    alloc: Global,
+    words: &[Word],
+    entries: &[Entry],
+) -> Result<List<ItemEntry>, NotLabelled> {
     let mut items = List::new(alloc);
     for entry in entries {
         match item_of(entry) {
