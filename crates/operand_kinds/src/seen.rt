@@ -3,7 +3,7 @@ ghost use Rattle.data_layout.specs.Index.{IsReady};
 ghost use Rattle.operand_kinds.specs.Kinds as spec;
 
 use crate::kind::{Kind, kind_of_item};
-use crate::reach::{Reach, reach};
+use crate::reach::{Reach, bytes_reached};
 use cobol_syntax::{Part, Place};
 use data_layout::{Found, Layout};
 use y2k_base::Bytes;
@@ -36,7 +36,7 @@ fn see_item(layout: &Layout, number: u32, cut: &Option<Part>) -> Option<Seen>
         Some(item) => Some(Seen {
             item: number,
             kind: kind_of_part(cut, kind_of_item(item)),
-            reach: reach(cut, item.span.length),
+            reach: bytes_reached(cut, item.span.length),
         }),
         None => None,
     }
