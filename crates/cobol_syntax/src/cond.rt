@@ -4,12 +4,13 @@ ghost use Rattle.cobol_syntax.specs.declared.expr.Expr.{Expr};
 ghost use Rattle.cobol_syntax.specs.declared.cond.Rel.{Rel};
 ghost use Rattle.cobol_syntax.specs.declared.cond.Condition.{Condition, out-Condition};
 ghost use Rattle.cobol_syntax.specs.declared.cond.CondForm.TheVariants as condition;
+ghost use Rattle.cobol_syntax.specs.Chains.{junction, joined};
 
 use crate::expr::Expr;
 use crate::place::Place;
 use sqlite_items::Boxed;
 use std::alloc::Global;
-use y2k_base::{Memory, Twin};
+use y2k_base::{List, Memory, Twin};
 
 /// A condition. `at` is the position of its first word in the program's words, and `end` is one past its
 /// last.
@@ -129,41 +130,125 @@ impl Drop for Condition {
 }
 
 impl Drop for CondForm {
+    /// Goes down the first operands by a loop, since a condition can have as many terms as a program has words.
     #[cycle(condition_drop)]
-    fn drop(self) {
-        match self {
-            CondForm::Relation {
-                left: _left,
-                rel: _,
-                right: _right,
-            } => {}
-            CondForm::Class {
-                of: _of,
-                numeric: _,
-            } => {}
-            CondForm::Sign { of: _of, sign: _ } => {}
-            CondForm::Named(_place) => {}
-            CondForm::Not(inner) => drop(inner.into_inner()),
-            CondForm::And(left, right) => {
-                drop(left.into_inner());
-                drop(right.into_inner());
-            }
-            CondForm::Or(left, right) => {
-                drop(left.into_inner());
-                drop(right.into_inner());
+    fn drop(mut self) {
+        loop {
+            match self {
+                CondForm::Relation {
+                    left: _left,
+                    rel: _,
+                    right: _right,
+                } => return,
+                CondForm::Class {
+                    of: _of,
+                    numeric: _,
+                } => return,
+                CondForm::Sign { of: _of, sign: _ } => return,
+                CondForm::Named(_place) => return,
+                CondForm::Not(inner) => self = inner.into_inner().into_form(),
+                CondForm::And(left, right) => {
+                    drop(right.into_inner());
+                    self = left.into_inner().into_form();
+                }
+                CondForm::Or(left, right) => {
+                    drop(right.into_inner());
+                    self = left.into_inner().into_form();
+                }
             }
         }
     }
 }
 
+/// AND or OR with its second condition. `at` and `end` are those of the whole.
+enum Joint {
+    And { at: u32, end: u32, right: Condition },
+    Or { at: u32, end: u32, right: Condition },
+}
+
+impl Drop for Joint {
+    fn drop(self) {
+        match self {
+            Joint::And {
+                at: _,
+                end: _,
+                right: _right,
+            } => {}
+            Joint::Or {
+                at: _,
+                end: _,
+                right: _right,
+            } => {}
+        }
+    }
+}
+
+impl Joint {
+    /// The whole, with a first condition.
+    fn over(self, alloc: Global, first: Condition) -> Result<Condition, Memory>
+        ensures { IfOk result (λ c. c ≡ junction self first) }
+    {
+        let first = Boxed::new(alloc, first)?;
+        match self {
+            Joint::And { at, end, right } => {
+                let form = CondForm::And(first, Boxed::new(alloc, right)?);
+                Ok(Condition { at, end, form })
+            }
+            Joint::Or { at, end, right } => {
+                let form = CondForm::Or(first, Boxed::new(alloc, right)?);
+                Ok(Condition { at, end, form })
+            }
+        }
+    }
+}
+
+/// The condition of a first one and what stands behind it, the last joint first.
+#[tactic(auto, using(crate::proofs::Chains::joined_last))]
+fn joined(alloc: Global, joints: List<Joint>, mut first: Condition) -> Result<Condition, Memory>
+    ensures { IfOk result (λ c. c ≡ joined joints first) }
+{
+    let mut joints = joints.into_vec();
+    while let Some(joint) = joints.pop() {
+        first = joint.over(alloc, first)?;
+    }
+    Ok(first)
+}
+
 impl Twin for Condition {
+    /// Goes down the first conditions by a loop, too.
     #[cycle(condition_twin)]
+    #[tactic(auto, using(crate::proofs::Chains::joined_last))]
     fn twin(&self, alloc: Global) -> Result<Condition, Memory> {
-        Ok(Condition {
-            at: self.at,
-            end: self.end,
-            form: self.form.twin(alloc)?,
-        })
+        let mut joints = List::new(alloc);
+        let mut first = self;
+        loop {
+            match &first.form {
+                CondForm::And(left, right) => {
+                    joints.push(Joint::And {
+                        at: first.at,
+                        end: first.end,
+                        right: right.get().twin(alloc)?,
+                    })?;
+                    first = left.get();
+                }
+                CondForm::Or(left, right) => {
+                    joints.push(Joint::Or {
+                        at: first.at,
+                        end: first.end,
+                        right: right.get().twin(alloc)?,
+                    })?;
+                    first = left.get();
+                }
+                form => {
+                    let inner = Condition {
+                        at: first.at,
+                        end: first.end,
+                        form: form.twin(alloc)?,
+                    };
+                    return joined(alloc, joints, inner);
+                }
+            }
+        }
     }
 }
 

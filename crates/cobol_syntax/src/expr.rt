@@ -3,12 +3,13 @@ ghost use Rattle.cobol_syntax.specs.declared.place.Place.{Place};
 ghost use Rattle.cobol_syntax.specs.declared.expr.Operand.{Operand};
 ghost use Rattle.cobol_syntax.specs.declared.expr.Operand.TheVariants as operand;
 ghost use Rattle.cobol_syntax.specs.declared.expr.Expr.TheVariants as expr;
+ghost use Rattle.cobol_syntax.specs.Chains.{operation, operated};
 
 use crate::place::Place;
 use decimal_bytes::Scaled;
 use sqlite_items::Boxed;
 use std::alloc::Global;
-use y2k_base::{Bytes, Memory, Twin};
+use y2k_base::{Bytes, List, Memory, Twin};
 
 /// What a statement takes a value from: an item, a numeric literal, a nonnumeric literal, or a figurative
 /// constant, by the byte that it repeats.
@@ -77,25 +78,28 @@ impl Drop for Operand {
 }
 
 impl Drop for Expr {
-    fn drop(self) {
-        match self {
-            Expr::One(_operand) => {}
-            Expr::Minus(inner) => drop(inner.into_inner()),
-            Expr::Add(left, right) => {
-                drop(left.into_inner());
-                drop(right.into_inner());
-            }
-            Expr::Sub(left, right) => {
-                drop(left.into_inner());
-                drop(right.into_inner());
-            }
-            Expr::Mul(left, right) => {
-                drop(left.into_inner());
-                drop(right.into_inner());
-            }
-            Expr::Div(left, right) => {
-                drop(left.into_inner());
-                drop(right.into_inner());
+    /// Goes down the first operands by a loop, since a sum can have as many terms as a program has words.
+    fn drop(mut self) {
+        loop {
+            match self {
+                Expr::One(_operand) => return,
+                Expr::Minus(inner) => self = inner.into_inner(),
+                Expr::Add(left, right) => {
+                    drop(right.into_inner());
+                    self = left.into_inner();
+                }
+                Expr::Sub(left, right) => {
+                    drop(right.into_inner());
+                    self = left.into_inner();
+                }
+                Expr::Mul(left, right) => {
+                    drop(right.into_inner());
+                    self = left.into_inner();
+                }
+                Expr::Div(left, right) => {
+                    drop(right.into_inner());
+                    self = left.into_inner();
+                }
             }
         }
     }
@@ -122,28 +126,84 @@ impl Twin for Operand {
     }
 }
 
-impl Twin for Expr {
-    #[cycle(expr_twin)]
-    fn twin(&self, alloc: Global) -> Result<Expr, Memory> {
+/// An operator with its second operand.
+enum Term {
+    Add(Expr),
+    Sub(Expr),
+    Mul(Expr),
+    Div(Expr),
+}
+
+impl Drop for Term {
+    fn drop(self) {
         match self {
-            Expr::One(operand) => Ok(Expr::One(operand.twin(alloc)?)),
-            Expr::Minus(inner) => Ok(Expr::Minus(twin_part(inner, alloc)?)),
-            Expr::Add(left, right) => Ok(Expr::Add(
-                twin_part(left, alloc)?,
-                twin_part(right, alloc)?,
-            )),
-            Expr::Sub(left, right) => Ok(Expr::Sub(
-                twin_part(left, alloc)?,
-                twin_part(right, alloc)?,
-            )),
-            Expr::Mul(left, right) => Ok(Expr::Mul(
-                twin_part(left, alloc)?,
-                twin_part(right, alloc)?,
-            )),
-            Expr::Div(left, right) => Ok(Expr::Div(
-                twin_part(left, alloc)?,
-                twin_part(right, alloc)?,
-            )),
+            Term::Add(_right) => {}
+            Term::Sub(_right) => {}
+            Term::Mul(_right) => {}
+            Term::Div(_right) => {}
+        }
+    }
+}
+
+impl Term {
+    /// The operation on a first operand.
+    fn over(self, alloc: Global, first: Expr) -> Result<Expr, Memory>
+        ensures { IfOk result (λ e. e ≡ operation self first) }
+    {
+        let first = Boxed::new(alloc, first)?;
+        match self {
+            Term::Add(right) => Ok(Expr::Add(first, Boxed::new(alloc, right)?)),
+            Term::Sub(right) => Ok(Expr::Sub(first, Boxed::new(alloc, right)?)),
+            Term::Mul(right) => Ok(Expr::Mul(first, Boxed::new(alloc, right)?)),
+            Term::Div(right) => Ok(Expr::Div(first, Boxed::new(alloc, right)?)),
+        }
+    }
+}
+
+/// The expression of a first operand and what stands behind it, the last term first.
+#[tactic(auto, using(crate::proofs::Chains::operated_last))]
+fn operated(alloc: Global, terms: List<Term>, mut first: Expr) -> Result<Expr, Memory>
+    ensures { IfOk result (λ e. e ≡ operated terms first) }
+{
+    let mut terms = terms.into_vec();
+    while let Some(term) = terms.pop() {
+        first = term.over(alloc, first)?;
+    }
+    Ok(first)
+}
+
+impl Twin for Expr {
+    /// Goes down the first operands by a loop, too.
+    #[cycle(expr_twin)]
+    #[tactic(auto, using(crate::proofs::Chains::operated_last))]
+    fn twin(&self, alloc: Global) -> Result<Expr, Memory> {
+        let mut terms = List::new(alloc);
+        let mut first = self;
+        loop {
+            match first {
+                Expr::One(operand) => {
+                    return operated(alloc, terms, Expr::One(operand.twin(alloc)?));
+                }
+                Expr::Minus(inner) => {
+                    return operated(alloc, terms, Expr::Minus(twin_part(inner, alloc)?));
+                }
+                Expr::Add(left, right) => {
+                    terms.push(Term::Add(right.get().twin(alloc)?))?;
+                    first = left.get();
+                }
+                Expr::Sub(left, right) => {
+                    terms.push(Term::Sub(right.get().twin(alloc)?))?;
+                    first = left.get();
+                }
+                Expr::Mul(left, right) => {
+                    terms.push(Term::Mul(right.get().twin(alloc)?))?;
+                    first = left.get();
+                }
+                Expr::Div(left, right) => {
+                    terms.push(Term::Div(right.get().twin(alloc)?))?;
+                    first = left.get();
+                }
+            }
         }
     }
 }

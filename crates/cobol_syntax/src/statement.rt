@@ -1,4 +1,4 @@
-ghost use Rattle.std.specs.Prelude.{◌≡◌, ◌≢◌, ℕ, List, Option, IfOk, IfErr, OnErr};
+ghost use Rattle.std.specs.Prelude.{◌≡◌, ◌≢◌, ◌∷◌, ◌++◌, [], ℕ, List, Option, IfOk, IfErr, OnErr, IfSome};
 ghost use Rattle.cobol_syntax.specs.declared.place.Place.{Place};
 ghost use Rattle.cobol_syntax.specs.declared.expr.Operand.{Operand};
 ghost use Rattle.cobol_syntax.specs.declared.cond.Condition.{Condition};
@@ -7,6 +7,7 @@ ghost use Rattle.cobol_syntax.specs.declared.statement.Control.{Control};
 ghost use Rattle.cobol_syntax.specs.declared.statement.Branch.{Branch, out-Branch};
 ghost use Rattle.cobol_syntax.specs.declared.statement.Form.TheVariants as form;
 ghost use Rattle.cobol_syntax.specs.declared.statement.Statement.{Statement, out-Statement};
+ghost use Rattle.cobol_syntax.specs.Chains.{linked, chain};
 
 use crate::cond::Condition;
 use crate::expr::{Expr, Operand};
@@ -284,7 +285,7 @@ impl Drop for Form {
                 other,
             } => {
                 drop(yes);
-                drop(other);
+                drop_statements(other);
             }
             Form::NextSentence => {}
             Form::GoTo { name: _name } => {}
@@ -314,6 +315,47 @@ impl Drop for Form {
             Form::Show {
                 operands: _operands,
             } => {}
+        }
+    }
+}
+
+/// The statements before the last one, and the last one; of none, none.
+fn without_last(list: List<Statement>) -> Result<(List<Statement>, Statement), List<Statement>>
+    ensures parts { IfOk result (λ parts. list ≡ parts.0 ++ parts.1 ∷ []) }
+    ensures same { IfErr result (λ same. same ≡ list) }
+{
+    let mut items = list.into_vec();
+    match items.pop() {
+        None => Err(List::from_vec(items)),
+        Some(last) => Ok((List::from_vec(items), last)),
+    }
+}
+
+/// Lets statements go. Where the last one is an IF it goes on with the statements of its ELSE by a loop, since
+/// chains of those can be as long as a program.
+#[cycle(statement_drop)]
+#[tactic(auto, using(crate::proofs::Chains::depth_ends))]
+fn drop_statements(mut list: List<Statement>) {
+    loop {
+        match without_last(list) {
+            Err(none) => {
+                drop(none);
+                return;
+            }
+            Ok((before, last)) => {
+                drop(before);
+                match last.into_form().into_if() {
+                    Err(form) => {
+                        drop(form);
+                        return;
+                    }
+                    Ok((test, yes, other)) => {
+                        drop(test);
+                        drop(yes);
+                        list = other;
+                    }
+                }
+            }
         }
     }
 }
@@ -455,9 +497,104 @@ impl Twin for Branch {
     }
 }
 
-/// The statements again.
+/// An IF that stands alone in its list, without the statements of its ELSE.
+struct Link {
+    id: StatementId,
+    at: u32,
+    end: u32,
+    test: Condition,
+    yes: List<Statement>,
+}
+
+impl Drop for Link {
+    fn drop(self) {
+        let Link {
+            id: _,
+            at: _,
+            end: _,
+            test: _test,
+            yes: _yes,
+        } = self;
+    }
+}
+
+impl Link {
+    /// The IF with the statements of its ELSE.
+    fn into_statement(self, other: List<Statement>) -> Statement
+        ensures { result ≡ linked self other }
+    {
+        let Link {
+            id,
+            at,
+            end,
+            test,
+            yes,
+        } = self;
+        let form = Form::If { test, yes, other };
+        Statement { id, at, end, form }
+    }
+}
+
+/// The links as a chain of IF, tied from the last one on.
+#[tactic(auto, using(crate::proofs::Chains::tied_last))]
+fn tied(
+    alloc: Global,
+    links: List<Link>,
+    mut rest: List<Statement>,
+) -> Result<List<Statement>, Memory>
+    ensures { IfOk result (λ list. list ≡ chain links rest) }
+{
+    let mut links = links.into_vec();
+    while let Some(link) = links.pop() {
+        let statement = link.into_statement(rest);
+        rest = List::new(alloc);
+        rest.push(statement)?;
+    }
+    Ok(rest)
+}
+
+/// The statement that stands alone in a list.
+fn only(list: &List<Statement>) -> Option<&Statement>
+    ensures { IfSome result (λ one. list.now ≡ one.now ∷ []) }
+{
+    match list.items() {
+        [one, more @ ..] => { if more.is_empty() { Some(one) } else { None } }
+        [] => None,
+    }
+}
+
+/// The statements again. It goes down a chain of IF by a loop.
 #[cycle(statement_twin)]
+#[tactic(auto, using(crate::proofs::Chains::tied_last))]
 fn twin_statements(list: &List<Statement>, alloc: Global) -> Result<List<Statement>, Memory>
+    ensures { IfOk result (λ copy. copy ≡ list.now) }
+{
+    let mut links = List::new(alloc);
+    let mut rest = list;
+    loop {
+        match only(rest) {
+            None => break,
+            Some(one) => match &one.form {
+                Form::If { test, yes, other } => {
+                    links.push(Link {
+                        id: one.id,
+                        at: one.at,
+                        end: one.end,
+                        test: test.twin(alloc)?,
+                        yes: twin_statements(yes, alloc)?,
+                    })?;
+                    rest = other;
+                }
+                _ => break,
+            },
+        }
+    }
+    tied(alloc, links, twin_each(rest, alloc)?)
+}
+
+/// Each of the statements again.
+#[cycle(statement_twin)]
+fn twin_each(list: &List<Statement>, alloc: Global) -> Result<List<Statement>, Memory>
     ensures { IfOk result (λ copy. copy ≡ list.now) }
 {
     let mut copy = List::new(alloc);

@@ -6,7 +6,7 @@ use cobol_syntax::{
 use cond_reader::{CondNames, UnitFault};
 use std::alloc::Global;
 use std::test::Fail;
-use y2k_base::{Bytes, FileId, List, Memory, Origin, Word, WordKind};
+use y2k_base::{Bytes, FileId, List, Memory, Origin, Twin, Word, WordKind};
 
 /// The kind of a word of these tests, by its first character. A tilde stands before a PICTURE word.
 fn kind_of(spelled: &[u8]) -> WordKind {
@@ -287,13 +287,13 @@ fn show_statement(alloc: Global, statement: &Statement, out: &mut Bytes) -> Resu
         statement.id.number, statement.at, statement.end
     )?;
     add(out, text.as_bytes())?;
-    match &statement.form {
-        Form::Move { from, to } => {
-            add(out, b"move ")?;
-            show_operand(alloc, from, out)?;
-            add(out, b" ")?;
-            show_place(to, out)
-        }
+    show_form(alloc, &statement.form, out)
+}
+
+/// What a statement does.
+#[cycle(show)]
+fn show_form(alloc: Global, form: &Form, out: &mut Bytes) -> Result<(), Memory> {
+    match form {
         Form::Compute {
             to,
             rounded,
@@ -313,13 +313,6 @@ fn show_statement(alloc: Global, statement: &Statement, out: &mut Bytes) -> Resu
             show_list(alloc, yes, out)?;
             show_list(alloc, other, out)
         }
-        Form::NextSentence => add(out, b"next"),
-        Form::GoTo { name } => {
-            add(out, b"go ")?;
-            add(out, name.items())
-        }
-        Form::Stop => add(out, b"stop"),
-        Form::Nothing => add(out, b"nothing"),
         Form::Perform {
             range,
             body,
@@ -330,6 +323,32 @@ fn show_statement(alloc: Global, statement: &Statement, out: &mut Bytes) -> Resu
             show_control(alloc, control, out)?;
             show_list(alloc, body, out)
         }
+        Form::Read { file, into, end } => {
+            add(out, b"read ")?;
+            add(out, file.items())?;
+            show_maybe_place(into, b" into ", out)?;
+            show_branch(alloc, end, out)
+        }
+        form => show_simple(alloc, form, out),
+    }
+}
+
+/// What a statement does that holds no other.
+fn show_simple(alloc: Global, form: &Form, out: &mut Bytes) -> Result<(), Memory> {
+    match form {
+        Form::Move { from, to } => {
+            add(out, b"move ")?;
+            show_operand(alloc, from, out)?;
+            add(out, b" ")?;
+            show_place(to, out)
+        }
+        Form::NextSentence => add(out, b"next"),
+        Form::GoTo { name } => {
+            add(out, b"go ")?;
+            add(out, name.items())
+        }
+        Form::Stop => add(out, b"stop"),
+        Form::Nothing => add(out, b"nothing"),
         Form::Open { mode, file } => {
             add(out, mode_text(*mode))?;
             add(out, file.items())
@@ -337,12 +356,6 @@ fn show_statement(alloc: Global, statement: &Statement, out: &mut Bytes) -> Resu
         Form::Close { file } => {
             add(out, b"close ")?;
             add(out, file.items())
-        }
-        Form::Read { file, into, end } => {
-            add(out, b"read ")?;
-            add(out, file.items())?;
-            show_maybe_place(into, b" into ", out)?;
-            show_branch(alloc, end, out)
         }
         Form::Write {
             name,
@@ -367,6 +380,7 @@ fn show_statement(alloc: Global, statement: &Statement, out: &mut Bytes) -> Resu
             }
             Ok(())
         }
+        _ => Ok(()),
     }
 }
 
@@ -631,37 +645,33 @@ fn at_most_64_levels_are_open_at_once(rt: HostRuntime) -> Result<(), Fail> {
     Ok(())
 }
 
-/// How many IF stand in the chain that a statement begins, one in the ELSE of the other. They are taken apart one by
-/// one, since to let go of a long chain at once takes much of the stack.
-fn chain_length(alloc: Global, sentence: Sentence, most: u32) -> u32 {
-    let mut list = sentence.into_statements();
-    let mut length = 0;
-    for turn in 0..most {
-        let mut statements = list.into_vec();
-        list = List::new(alloc);
-        match statements.pop() {
-            None => {}
-            Some(statement) => match statement.into_form().into_if() {
-                Ok((_test, _yes, other)) => {
+/// How many IF stand in the chain that these statements begin, one in the ELSE of the other.
+fn chain_length(mut list: &List<Statement>) -> u32 {
+    let mut length = 0u32;
+    loop {
+        match list.items() {
+            [one] => match &one.form {
+                Form::If { other, .. } => {
+                    length = length.saturating_add(1);
                     list = other;
-                    length = turn + 1;
                 }
-                Err(_form) => {}
+                _ => return length,
             },
+            _ => return length,
         }
     }
-    length
 }
 
-/// The length of the chain of IF that an EVALUATE with this many WHEN is read as, the position after it, and the next
-/// number.
-fn read_groups(alloc: Global, count: u32) -> Result<Bytes, Memory> {
+/// What is read of a sentence of a head, a part that is repeated 20,000 times, and an end: the length of the chain of
+/// IF that its statements begin, and of that of their twin, the position after it, and the next number. Both trees are
+/// let go.
+fn read_long(alloc: Global, head: &[u8], part: &[u8], end: &[u8]) -> Result<Bytes, Memory> {
     let mut words = List::new(alloc);
-    push_all(alloc, &mut words, b"EVALUATE A")?;
-    for _ in 0..count {
-        push_all(alloc, &mut words, b"WHEN 1 EXIT")?;
+    push_all(alloc, &mut words, head)?;
+    for _ in 0..20_000 {
+        push_all(alloc, &mut words, part)?;
     }
-    push_all(alloc, &mut words, b".")?;
+    push_all(alloc, &mut words, end)?;
     let names = CondNames {
         list: List::new(alloc),
     };
@@ -671,8 +681,10 @@ fn read_groups(alloc: Global, count: u32) -> Result<Bytes, Memory> {
     }
     match read_sentence(alloc, words.items(), 0, &names, 0, 0) {
         Ok((sentence, end, number)) => {
-            let length = chain_length(alloc, sentence, count);
-            let text = format!(in alloc; "{length} {end} {number}")?;
+            let twin = sentence.twin(alloc)?;
+            let length = chain_length(&sentence.statements);
+            let again = chain_length(&twin.statements);
+            let text = format!(in alloc; "{length} {again} {end} {number}")?;
             add(&mut out, text.as_bytes())?;
         }
         Err(_) => {}
@@ -681,8 +693,15 @@ fn read_groups(alloc: Global, count: u32) -> Result<Bytes, Memory> {
 }
 
 #[test]
-fn a_long_chain_of_when_is_read(rt: HostRuntime) -> Result<(), Fail> {
-    let got = read_groups(rt.alloc(), 20_000)?;
-    assert_eq!(rt; got.items(), b"20000 60003 40000".as_slice());
+fn long_chains_are_read_and_let_go(rt: HostRuntime) -> Result<(), Fail> {
+    let alloc = rt.alloc();
+    let bodies = read_long(alloc, b"EVALUATE A", b"WHEN 1 EXIT", b".")?;
+    assert_eq!(rt; bodies.items(), b"20000 20000 60003 40000".as_slice());
+    let one_body = read_long(alloc, b"EVALUATE A", b"WHEN 1", b"EXIT .")?;
+    assert_eq!(rt; one_body.items(), b"1 1 40004 2".as_slice());
+    let sum = read_long(alloc, b"COMPUTE A = 1", b"+ 1", b".")?;
+    assert_eq!(rt; sum.items(), b"0 0 40005 1".as_slice());
+    let relations = read_long(alloc, b"IF A = 1", b"AND 1", b"EXIT .")?;
+    assert_eq!(rt; relations.items(), b"1 1 40006 2".as_slice());
     Ok(())
 }
