@@ -5,9 +5,9 @@ use Rattle.answers.specs.Lines.{refused_name_line, refused_place_line, shelf_fau
 use Rattle.answers.specs.Said.{IsPrinted}
 use Rattle.text_load.specs.Texts.{HasText, HasLoadFault}
 use Rattle.text_load.specs.declared.LoadFault.TheVariants as load
-use Rattle.date_types.specs.declared.label.Fact.{Fact}
-use Rattle.date_types.specs.Facts.{IsClean}
-use Rattle.date_types.specs.Order.{IsAscending}
+use Rattle.year_labels.specs.declared.label.Fact.{Fact}
+use Rattle.year_labels.specs.Facts.{IsClean}
+use Rattle.year_labels.specs.Order.{IsAscending}
 use Rattle.label_spread.specs.Derivation.{AreDerivable}
 use Rattle.cobol_syntax.specs.declared.program.Program.{Program}
 use Rattle.label_command.specs.declared.form.PlainProgram.{PlainProgram}

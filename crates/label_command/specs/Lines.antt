@@ -1,8 +1,8 @@
 use Rattle.std.specs.Prelude.{ℕ, List, [], ◌∷◌, ◌++◌, codes, decimal, slice_get, Option, Some, None}
 use Rattle.std.specs.List.{flat_map}
-use Rattle.date_types.specs.declared.label.Fact.{Fact}
-use Rattle.date_types.specs.declared.label.Label.{Label}
-use Rattle.date_types.specs.declared.label.Label.TheVariants.{Tens, Units, Plain, Packed}
+use Rattle.year_labels.specs.declared.label.Fact.{Fact}
+use Rattle.year_labels.specs.declared.label.Label.{Label}
+use Rattle.year_labels.specs.declared.label.Label.TheVariants.{Tens, Units, Plain, Packed}
 use Rattle.label_command.specs.declared.form.ItemEntry.{ItemEntry}
 
 -- how a label is printed

@@ -1,11 +1,11 @@
 -- The rules of moves.
 use Rattle.std.specs.Prelude.{ℕ, zero, suc, List, [], ◌∷◌, Option, Some, if◌then◌else◌}
 use Rattle.y2k_base.specs.declared.place.Span.{Span}
-use Rattle.date_types.specs.declared.rule.Rule.TheVariants as rules
-use Rattle.date_types.specs.declared.rule.View.{View}
-use Rattle.date_types.specs.declared.rule.View.TheVariants as views
-use Rattle.date_types.specs.declared.rule.RuleForm.TheVariants as forms
-use Rattle.date_types.specs.declared.rule.RuleInst.{RuleInst}
+use Rattle.year_labels.specs.declared.rule.Rule.TheVariants as rules
+use Rattle.year_labels.specs.declared.rule.View.{View}
+use Rattle.year_labels.specs.declared.rule.View.TheVariants as views
+use Rattle.year_labels.specs.declared.rule.RuleForm.TheVariants as forms
+use Rattle.year_labels.specs.declared.rule.RuleInst.{RuleInst}
 use Rattle.label_command.specs.declared.form.MoveEntry.{MoveEntry}
 
 -- the powers of so many digits, from the left

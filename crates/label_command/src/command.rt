@@ -2,7 +2,7 @@ ghost use Rattle.std.specs.Prelude.{◌≡◌, ◌≤◌, ℕ, List, Option, IfO
 ghost use Rattle.shelf.specs.Causes.{Rose};
 ghost use Rattle.shelf.specs.Contents.{Files};
 ghost use Rattle.text_load.specs.Texts.{HasLoadFault};
-ghost use Rattle.date_types.specs.Order.{IsAscending};
+ghost use Rattle.year_labels.specs.Order.{IsAscending};
 ghost use Rattle.label_spread.specs.Derivation.{AreDerivable};
 ghost use Rattle.label_command.specs.Answer.{AreLabels, AreLabelsFrom, AreLabelsOf, HasCause, HasTextCause, HasTreeCause, IsAnswered, IsLabelled};
 ghost use Rattle.label_command.specs.Texts.{IsTree, IsTreeOfWords, IsTreeOfExpanded, IsRefusedText, IsRefusedWords, IsRefusedExpansion, line_kind, copy_refusal};
@@ -18,7 +18,7 @@ use crate::year::{year_area, year_seeds};
 use answers::{CONFLICT, DONE, say};
 use cobol_syntax::Program;
 use copy_origins::{Books, CopyFault, Expanded, expand};
-use date_types::Labelling;
+use year_labels::Labelling;
 use fixed_format::{LineFault, LineKind, read_lines};
 use label_spread::spread;
 use program_reader::{ReadFault, RefusedKind, read_program};

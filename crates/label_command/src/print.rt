@@ -2,7 +2,7 @@ ghost use Rattle.std.specs.Prelude.{◌≡◌, ◌++◌, IfOk, OnOk, slice_get, 
 ghost use Rattle.label_command.specs.Lines.{label_text, name_text, line_rest, line_of, lines_of};
 
 use crate::form::ItemEntry;
-use date_types::{Fact, Label, Labelling};
+use year_labels::{Fact, Label, Labelling};
 use std::alloc::{AllocError, Global};
 
 /// A line for each fact, in order.

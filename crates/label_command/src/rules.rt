@@ -1,9 +1,9 @@
 ghost use Rattle.std.specs.Prelude.{◌≡◌, ◌≤◌, length, IfOk, All, map};
-ghost use Rattle.date_types.specs.Forms.{IsFit, IsFitView};
+ghost use Rattle.year_labels.specs.Forms.{IsFit, IsFitView};
 ghost use Rattle.label_command.specs.Rules.{rule_for, span_for, view_for};
 
 use crate::form::{MoveEntry, Shape};
-use date_types::{Rule, RuleForm, RuleInst, View};
+use year_labels::{Rule, RuleForm, RuleInst, View};
 use std::alloc::Global;
 use y2k_base::{AreaId, List, Memory, Span};
 

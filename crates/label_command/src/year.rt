@@ -4,7 +4,7 @@ ghost use Rattle.label_command.specs.Years.{is_named, year_at, year_area_of, yea
 
 use crate::form::ItemEntry;
 use crate::plain::number_of;
-use date_types::{Fact, Label, Seed};
+use year_labels::{Fact, Label, Seed};
 use y2k_base::{AreaId, BytePlace};
 
 /// The number of the item's area, where it has two bytes or more. Its name is read in capitals.

@@ -3,9 +3,9 @@ use Rattle.std.proofs.Common.{◌≡◌, inl, inr, ℕ, ◌<◌, List, sym, ap, 
 use Rattle.std.proofs.lemmas.List.Elements.{Contains-push_cases}
 use Rattle.y2k_base.specs.declared.place.Span.{Span}
 use Rattle.y2k_base.specs.declared.place.BytePlace.{BytePlace}
-use Rattle.date_types.specs.declared.label.Fact.{Fact}
-use Rattle.date_types.specs.Facts.{fact_in, fact_of, place_in}
-use Rattle.date_types.specs.Forms.{IsCopied}
+use Rattle.year_labels.specs.declared.label.Fact.{Fact}
+use Rattle.year_labels.specs.Facts.{fact_in, fact_of, place_in}
+use Rattle.year_labels.specs.Forms.{IsCopied}
 use Rattle.label_spread.specs.Steps.{Adds, Reacts, IsInSpan}
 use Rattle.label_spread.proofs.Growth.{Extends-weaker, Reacts-none}
 

@@ -4,7 +4,7 @@ use Rattle.std.proofs.lemmas.Bool.{cases_lt}
 use Rattle.std.proofs.lemmas.List.{take-append-le, take-take, take_all, take_at, get_or-take, get_or_append_left, take-append-drop}
 use Rattle.std.proofs.lemmas.List.Elements.{Contains-append_left, Contains-push, Contains-push_cases}
 use Rattle.std.proofs.Math.Seq.{get_or-append_seam}
-use Rattle.date_types.specs.declared.label.Fact.{Fact}
+use Rattle.year_labels.specs.declared.label.Fact.{Fact}
 use Rattle.label_spread.specs.Steps.{Extends, Adds, Starts, Reacts, IsPartOf}
 
 -- a step at equal lists and facts

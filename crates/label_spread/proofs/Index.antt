@@ -10,10 +10,10 @@ use Rattle.std.specs.Cmp.{eq_by_cmp_equiv}
 use Rattle.std.proofs.lemmas.List.Folds.{Any-from_list_any}
 use Rattle.std.proofs.lemmas.Map.Views.{list_any-from_Contains}
 use Rattle.std.proofs.lemmas.List.Elements.{Contains-append_left, Contains-push, Contains-push_cases}
-use Rattle.date_types.specs.declared.label.Fact.{Fact}
-use Rattle.date_types.specs.Order.{fact_cmp}
-use Rattle.date_types.proofs.Total.{fact_exact, fact_total}
-use Rattle.date_types.proofs.Keys.{insert_key-new, insert_key-old, insert_key-cases}
+use Rattle.year_labels.specs.declared.label.Fact.{Fact}
+use Rattle.year_labels.specs.Order.{fact_cmp}
+use Rattle.year_labels.proofs.Total.{fact_exact, fact_total}
+use Rattle.year_labels.proofs.Keys.{insert_key-new, insert_key-old, insert_key-cases}
 use Rattle.label_spread.specs.Steps.{HaveSameFacts}
 
 equal_from : (r : Ordering) → is_eq r ≡ true → r ≡ Equal

@@ -2,10 +2,10 @@
 use Rattle.std.proofs.Common.{◌≡◌, ◌↔◌, inl, inr, ℕ, zero, suc, ◌+◌, ◌<◌, ◌≤◌, List, [], ◌∷◌, ◌++◌, length, take, get_or, slice_get, sym, ap, ◌∙◌, subst, arith, Contains, All, Option, Some}
 use Rattle.std.proofs.lemmas.List.{get_or-take, length-take-le, take_more, take-take, take_all}
 use Rattle.std.proofs.lemmas.Option.{slice_get_within, slice_get_cases, get_or_from_slice_get}
-use Rattle.date_types.specs.declared.label.Fact.{Fact}
-use Rattle.date_types.specs.declared.label.Seed.{Seed}
-use Rattle.date_types.specs.declared.rule.RuleInst.{RuleInst}
-use Rattle.date_types.specs.Forms.{IsFit}
+use Rattle.year_labels.specs.declared.label.Fact.{Fact}
+use Rattle.year_labels.specs.declared.label.Seed.{Seed}
+use Rattle.year_labels.specs.declared.rule.RuleInst.{RuleInst}
+use Rattle.year_labels.specs.Forms.{IsFit}
 use Rattle.label_spread.specs.Derivation.{IsSeedFact, IsStep, IsDerivation, IsDerivable, AreDerivable, IsClosed, IsLeast, FollowsByOne}
 use Rattle.label_spread.specs.Steps.{Extends, Adds, Starts, Reacts, Closes}
 use Rattle.label_spread.proofs.Growth.{Extends-refl, Extends-trans, Extends-weaker, Extends-contains, Contains-take}

@@ -4,22 +4,22 @@ use Rattle.std.proofs.lemmas.Option.{slice_get_within}
 use Rattle.std.proofs.lemmas.List.Elements.{Contains-push_cases}
 use Rattle.y2k_base.specs.declared.place.Span.{Span}
 use Rattle.y2k_base.specs.declared.place.BytePlace.{BytePlace}
-use Rattle.date_types.specs.declared.label.Fact.{Fact}
-use Rattle.date_types.specs.declared.label.Label.TheVariants as labels
-use Rattle.date_types.specs.declared.label.Role.{Role}
-use Rattle.date_types.specs.declared.label.Role.TheVariants as roles
-use Rattle.date_types.specs.declared.rule.View.{View}
-use Rattle.date_types.specs.declared.rule.View.TheVariants as views
-use Rattle.date_types.specs.declared.rule.RuleForm.{RuleForm}
-use Rattle.date_types.specs.declared.rule.RuleForm.TheVariants as forms
-use Rattle.date_types.specs.Facts.{fact_in}
-use Rattle.date_types.specs.Roles.{HasRole, HasPackedRole, HasPackedYear, MayBePlain, GivesPacked, Gives, label_of}
-use Rattle.date_types.specs.declared.rows.Who.{Who}
-use Rattle.date_types.specs.declared.rows.Who.TheVariants as whos
-use Rattle.date_types.specs.declared.rows.Test.{Test}
-use Rattle.date_types.specs.declared.rows.Row.{Row}
-use Rattle.date_types.specs.Operands.{Is, Makes, Holds, HoldsIf, Fires, IsByRow, operand}
-use Rattle.date_types.specs.Forms.{IsFit, IsFitView, IsPassed, IsCopied, HasYearDigit, Follows}
+use Rattle.year_labels.specs.declared.label.Fact.{Fact}
+use Rattle.year_labels.specs.declared.label.Label.TheVariants as labels
+use Rattle.year_labels.specs.declared.label.Role.{Role}
+use Rattle.year_labels.specs.declared.label.Role.TheVariants as roles
+use Rattle.year_labels.specs.declared.rule.View.{View}
+use Rattle.year_labels.specs.declared.rule.View.TheVariants as views
+use Rattle.year_labels.specs.declared.rule.RuleForm.{RuleForm}
+use Rattle.year_labels.specs.declared.rule.RuleForm.TheVariants as forms
+use Rattle.year_labels.specs.Facts.{fact_in}
+use Rattle.year_labels.specs.Roles.{HasRole, HasPackedRole, HasPackedYear, MayBePlain, GivesPacked, Gives, label_of}
+use Rattle.year_labels.specs.declared.rows.Who.{Who}
+use Rattle.year_labels.specs.declared.rows.Who.TheVariants as whos
+use Rattle.year_labels.specs.declared.rows.Test.{Test}
+use Rattle.year_labels.specs.declared.rows.Row.{Row}
+use Rattle.year_labels.specs.Operands.{Is, Makes, Holds, HoldsIf, Fires, IsByRow, operand}
+use Rattle.year_labels.specs.Forms.{IsFit, IsFitView, IsPassed, IsCopied, HasYearDigit, Follows}
 use Rattle.label_spread.specs.Steps.{IsInSpan, IsInView, IsPassedAs, IsPassedAt, MayFill, IsFilledAt, FollowsAlike, FollowsWhole, Touches}
 use Rattle.label_spread.proofs.Growth.{IsMonotone}
 

@@ -5,14 +5,14 @@ use Rattle.std.proofs.lemmas.List.{get_or_default}
 use Rattle.std.proofs.lemmas.List.Elements.{Contains-push_cases}
 use Rattle.y2k_base.specs.declared.place.BytePlace.{BytePlace}
 use Rattle.y2k_base.specs.declared.place.Span.{Span}
-use Rattle.date_types.specs.declared.label.Fact.{Fact}
-use Rattle.date_types.specs.declared.rule.View.{View}
-use Rattle.date_types.specs.declared.rule.View.TheVariants as views
-use Rattle.date_types.specs.declared.rule.RuleForm.{RuleForm}
-use Rattle.date_types.specs.declared.rule.RuleForm.TheVariants as forms
-use Rattle.date_types.specs.declared.rule.RuleInst.{RuleInst}
-use Rattle.date_types.specs.Facts.{fact_in}
-use Rattle.date_types.specs.Forms.{IsFit, IsCopied, Follows}
+use Rattle.year_labels.specs.declared.label.Fact.{Fact}
+use Rattle.year_labels.specs.declared.rule.View.{View}
+use Rattle.year_labels.specs.declared.rule.View.TheVariants as views
+use Rattle.year_labels.specs.declared.rule.RuleForm.{RuleForm}
+use Rattle.year_labels.specs.declared.rule.RuleForm.TheVariants as forms
+use Rattle.year_labels.specs.declared.rule.RuleInst.{RuleInst}
+use Rattle.year_labels.specs.Facts.{fact_in}
+use Rattle.year_labels.specs.Forms.{IsFit, IsCopied, Follows}
 use Rattle.label_spread.specs.declared.slots.Slot.{Slot}
 use Rattle.label_spread.specs.Derivation.{FollowsByOne}
 use Rattle.label_spread.specs.Steps.{Extends, Reacts, ReactsBy, IsPartOf, IsInSpan, IsInView, FollowsAlike, Touches}

@@ -3,7 +3,7 @@ use Rattle.std.proofs.Common.{◌≡◌, ◌⊎◌, inl, inr, ℕ, ◌+◌, ◌<
 use Rattle.std.proofs.lemmas.Bool.{cases_lt}
 use Rattle.std.proofs.lemmas.List.{get_or_default}
 use Rattle.std.proofs.lemmas.List.Elements.{Contains-get_or}
-use Rattle.date_types.specs.declared.label.Fact.{Fact}
+use Rattle.year_labels.specs.declared.label.Fact.{Fact}
 use Rattle.label_spread.specs.Steps.{Extends, Adds, Starts, Reacts, IsPartOf}
 use Rattle.label_spread.proofs.Growth.{Extends-refl, Extends-weaker, Extends-trans, Extends-contains, IsMonotone}
 

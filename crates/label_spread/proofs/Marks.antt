@@ -1,10 +1,10 @@
 -- What is given to packed numbers.
 use Rattle.std.proofs.Common.{◌≡◌, inl, inr, ℕ, ◌+◌, ◌<◌, ◌≤◌, List, subst, arith}
 use Rattle.y2k_base.specs.declared.place.Span.{Span}
-use Rattle.date_types.specs.declared.label.Fact.{Fact}
-use Rattle.date_types.specs.declared.label.Label.TheVariants as labels
-use Rattle.date_types.specs.declared.label.Role.TheVariants as roles
-use Rattle.date_types.specs.Roles.{GivesPacked, MayBePlain, IsPackedYear, IsHalfYear, IsPlainByte}
+use Rattle.year_labels.specs.declared.label.Fact.{Fact}
+use Rattle.year_labels.specs.declared.label.Label.TheVariants as labels
+use Rattle.year_labels.specs.declared.label.Role.TheVariants as roles
+use Rattle.year_labels.specs.Roles.{GivesPacked, MayBePlain, IsPackedYear, IsHalfYear, IsPlainByte}
 use Rattle.label_spread.specs.Steps.{Adds}
 use Rattle.label_spread.proofs.Growth.{Adds-alike, Adds-none}
 use Rattle.label_spread.proofs.Local.{MayBePlain-local}

@@ -1,12 +1,12 @@
 -- Roles that are given where a digit has them.
 use Rattle.std.proofs.Common.{◌⊎◌, inl, inr, ℕ, List}
-use Rattle.date_types.specs.declared.label.Fact.{Fact}
-use Rattle.date_types.specs.declared.label.Role.{Role}
-use Rattle.date_types.specs.declared.label.Role.TheVariants as roles
-use Rattle.date_types.specs.declared.rule.View.{View}
-use Rattle.date_types.specs.Roles.{HasRole, Gives}
-use Rattle.date_types.specs.Forms.{IsFitView, IsPassed, Follows}
-use Rattle.date_types.specs.declared.rule.RuleForm.TheVariants as forms
+use Rattle.year_labels.specs.declared.label.Fact.{Fact}
+use Rattle.year_labels.specs.declared.label.Role.{Role}
+use Rattle.year_labels.specs.declared.label.Role.TheVariants as roles
+use Rattle.year_labels.specs.declared.rule.View.{View}
+use Rattle.year_labels.specs.Roles.{HasRole, Gives}
+use Rattle.year_labels.specs.Forms.{IsFitView, IsPassed, Follows}
+use Rattle.year_labels.specs.declared.rule.RuleForm.TheVariants as forms
 use Rattle.label_spread.specs.Steps.{Adds, IsPassedAs, IsPassedAt}
 use Rattle.label_spread.proofs.Growth.{Adds-alike, Adds-both}
 use Rattle.label_spread.proofs.Local.{HasRole-grows, IsPassedAs-monotone, IsPassed-monotone}

@@ -1,10 +1,10 @@
 -- Rules of alike bytes and other rules, put together.
 use Rattle.std.proofs.Common.{◌≡◌, ◌⊎◌, inl, inr, List, [], ◌∷◌, ◌++◌, arith, Contains}
 use Rattle.y2k_base.specs.declared.place.Span.{Span}
-use Rattle.date_types.specs.declared.label.Fact.{Fact}
-use Rattle.date_types.specs.declared.rule.RuleForm.{RuleForm}
-use Rattle.date_types.specs.declared.rule.RuleForm.TheVariants as forms
-use Rattle.date_types.specs.Forms.{IsFit, Follows}
+use Rattle.year_labels.specs.declared.label.Fact.{Fact}
+use Rattle.year_labels.specs.declared.rule.RuleForm.{RuleForm}
+use Rattle.year_labels.specs.declared.rule.RuleForm.TheVariants as forms
+use Rattle.year_labels.specs.Forms.{IsFit, Follows}
 use Rattle.label_spread.specs.Steps.{Adds, Starts, Reacts, FollowsAlike, FollowsWhole, Touches}
 use Rattle.label_spread.proofs.Growth.{Extends-weaker, Reacts-both, Reacts-alike, Reacts-whole, Reacts-none}
 use Rattle.label_spread.proofs.Local.{split, from_alike, from_whole, not_alike, alike_from_nothing, FollowsWhole-monotone, FollowsWhole-apart}

@@ -1,9 +1,9 @@
 -- Derivations, and the least list of facts that is closed.
 use Rattle.std.specs.Prelude.{◌≡◌, ◌⊎◌, ℕ, ◌<◌, List, length, take, slice_index_or, Contains}
-use Rattle.date_types.specs.declared.label.Fact.{Fact}
-use Rattle.date_types.specs.declared.label.Seed.{Seed}
-use Rattle.date_types.specs.declared.rule.RuleInst.{RuleInst}
-use Rattle.date_types.specs.Forms.{Follows}
+use Rattle.year_labels.specs.declared.label.Fact.{Fact}
+use Rattle.year_labels.specs.declared.label.Seed.{Seed}
+use Rattle.year_labels.specs.declared.rule.RuleInst.{RuleInst}
+use Rattle.year_labels.specs.Forms.{Follows}
 
 -- it follows by one of the rules
 abbrev pub FollowsByOne : List RuleInst → List Fact → Fact → Type 0

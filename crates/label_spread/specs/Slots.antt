@@ -7,9 +7,9 @@ use Rattle.std.specs.Ordering.{nat_cmp, ordering_then}
 use Rattle.std.specs.BTreeMap.Range.{range_contains}
 use Rattle.y2k_base.specs.declared.place.AreaId.{AreaId}
 use Rattle.y2k_base.specs.declared.place.BytePlace.{BytePlace}
-use Rattle.date_types.specs.declared.rule.RuleForm.{RuleForm}
-use Rattle.date_types.specs.declared.rule.RuleForm.TheVariants as forms
-use Rattle.date_types.specs.declared.rule.RuleInst.{RuleInst}
+use Rattle.year_labels.specs.declared.rule.RuleForm.{RuleForm}
+use Rattle.year_labels.specs.declared.rule.RuleForm.TheVariants as forms
+use Rattle.year_labels.specs.declared.rule.RuleInst.{RuleInst}
 use Rattle.label_spread.specs.declared.slots.Slot.{Slot}
 use Rattle.label_spread.specs.Steps.{IsInSpan, Touches}
 

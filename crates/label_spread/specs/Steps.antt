@@ -2,19 +2,19 @@
 use Rattle.std.specs.Prelude.{◌≡◌, ◌⊎◌, ◌↔◌, ℕ, ◌<◌, ◌≤◌, List, [], ◌∷◌, ◌++◌, length, take, slice_index_or, Contains}
 use Rattle.y2k_base.specs.declared.place.BytePlace.{BytePlace}
 use Rattle.y2k_base.specs.declared.place.Span.{Span}
-use Rattle.date_types.specs.declared.label.Fact.{Fact}
-use Rattle.date_types.specs.declared.label.Label.{Label}
-use Rattle.date_types.specs.declared.label.Label.TheVariants as labels
-use Rattle.date_types.specs.declared.label.Role.{Role}
-use Rattle.date_types.specs.declared.rule.View.{View}
-use Rattle.date_types.specs.declared.rule.View.TheVariants as views
-use Rattle.date_types.specs.declared.label.Role.TheVariants as roles
-use Rattle.date_types.specs.declared.rule.RuleForm.{RuleForm}
-use Rattle.date_types.specs.declared.rule.RuleInst.{RuleInst}
-use Rattle.date_types.specs.declared.rule.RuleForm.TheVariants as forms
-use Rattle.date_types.specs.Facts.{place_in}
-use Rattle.date_types.specs.Roles.{HasRole, Gives}
-use Rattle.date_types.specs.Forms.{HasYearDigit, Follows}
+use Rattle.year_labels.specs.declared.label.Fact.{Fact}
+use Rattle.year_labels.specs.declared.label.Label.{Label}
+use Rattle.year_labels.specs.declared.label.Label.TheVariants as labels
+use Rattle.year_labels.specs.declared.label.Role.{Role}
+use Rattle.year_labels.specs.declared.rule.View.{View}
+use Rattle.year_labels.specs.declared.rule.View.TheVariants as views
+use Rattle.year_labels.specs.declared.label.Role.TheVariants as roles
+use Rattle.year_labels.specs.declared.rule.RuleForm.{RuleForm}
+use Rattle.year_labels.specs.declared.rule.RuleInst.{RuleInst}
+use Rattle.year_labels.specs.declared.rule.RuleForm.TheVariants as forms
+use Rattle.year_labels.specs.Facts.{place_in}
+use Rattle.year_labels.specs.Roles.{HasRole, Gives}
+use Rattle.year_labels.specs.Forms.{HasYearDigit, Follows}
 use Rattle.label_spread.specs.Derivation.{FollowsByOne}
 
 abbrev pub HaveSameFacts : List Fact → List Fact → Type 0

@@ -1,11 +1,11 @@
 ghost use Rattle.std.specs.Prelude.{◌≡◌, ◌↔◌, ◌<◌, ◌≤◌, ℕ, ◌∷◌, [], IsTrue, IfSome, IfNone, OnOk, Contains, length};
-ghost use Rattle.date_types.specs.Facts.{place_in, fact_in};
-ghost use Rattle.date_types.specs.Forms.{IsPlaced, IsCopied};
-ghost use Rattle.date_types.specs.Roles.{HoldsPower};
+ghost use Rattle.year_labels.specs.Facts.{place_in, fact_in};
+ghost use Rattle.year_labels.specs.Forms.{IsPlaced, IsCopied};
+ghost use Rattle.year_labels.specs.Roles.{HoldsPower};
 ghost use Rattle.label_spread.specs.Steps.{Adds, Reacts, IsInSpan};
 
 use crate::known::Known;
-use date_types::{Fact, Label};
+use year_labels::{Fact, Label};
 use y2k_base::{BytePlace, Memory, Span};
 
 /// Which byte of the span the place is.

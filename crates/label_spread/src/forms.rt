@@ -1,13 +1,13 @@
 ghost use Rattle.std.specs.Prelude.{◌≡◌, ◌⊎◌, ◌↔◌, IsTrue, OnOk, Contains};
-ghost use Rattle.date_types.specs.declared.rule.RuleForm.TheVariants as forms;
-ghost use Rattle.date_types.specs.Forms.{IsFit, IsFitView, Follows};
+ghost use Rattle.year_labels.specs.declared.rule.RuleForm.TheVariants as forms;
+ghost use Rattle.year_labels.specs.Forms.{IsFit, IsFitView, Follows};
 ghost use Rattle.label_spread.specs.Steps.{Adds, Starts, Reacts, FollowsAlike, FollowsWhole, Touches, IsInView};
 
 use crate::bytes::copy_label;
 use crate::known::Known;
 use crate::roles::{fill, give_role, is_in_view, pass_both};
 use crate::sums::fire_rows;
-use date_types::{Fact, RuleForm, View, add_rows, sub_rows};
+use year_labels::{Fact, RuleForm, View, add_rows, sub_rows};
 use y2k_base::{BytePlace, Memory};
 
 /// Adds what the rule gives from nothing.

@@ -1,9 +1,9 @@
 ghost use Rattle.std.specs.Prelude.{◌≡◌, ◌↔◌, ◌<◌, ◌^◌, ◌-◌, ◌++◌, ◌∷◌, [], IsTrue, OnOk, OnErr, Contains, IfSome, slice_get};
 ghost use Rattle.std.specs.BTreeSet.{insert_key, contains_by};
-ghost use Rattle.date_types.specs.Order.{fact_cmp};
+ghost use Rattle.year_labels.specs.Order.{fact_cmp};
 ghost use Rattle.label_spread.specs.Steps.{Adds};
 
-use date_types::Fact;
+use year_labels::Fact;
 use std::alloc::{AllocError, Global};
 use std::collections::BTreeSet;
 use std::marker::Model;
@@ -18,7 +18,7 @@ pub(crate) struct Known {
 
 impl Model for Known {
     ghost use Rattle.std.specs.Prelude.{List};
-    ghost use Rattle.date_types.specs.declared.label.Fact.{Fact};
+    ghost use Rattle.year_labels.specs.declared.label.Fact.{Fact};
 
     ghost Value = { List Fact };
 

@@ -1,13 +1,13 @@
 ghost use Rattle.std.specs.Prelude.{◌≡◌, ◌↔◌, ◌<◌, ◌≤◌, ◌+◌, ◌/◌, ℕ, IsTrue, OnOk, Contains};
-ghost use Rattle.date_types.specs.Facts.{fact_in};
-ghost use Rattle.date_types.specs.Forms.{IsPlaced};
-ghost use Rattle.date_types.specs.Roles.{HasPackedRole, GivesPacked, MayBePlain, HasPackedYear, IsPackedYear, IsHalfYear};
-ghost use Rattle.date_types.specs.declared.label.Role.TheVariants as roles;
+ghost use Rattle.year_labels.specs.Facts.{fact_in};
+ghost use Rattle.year_labels.specs.Forms.{IsPlaced};
+ghost use Rattle.year_labels.specs.Roles.{HasPackedRole, GivesPacked, MayBePlain, HasPackedYear, IsPackedYear, IsHalfYear};
+ghost use Rattle.year_labels.specs.declared.label.Role.TheVariants as roles;
 ghost use Rattle.label_spread.specs.Steps.{Adds, label_on};
 
 use crate::bytes::{fact_at, insert_at};
 use crate::known::Known;
-use date_types::{Label, Role};
+use year_labels::{Label, Role};
 use y2k_base::{Memory, Span};
 
 /// The label of the byte of that index of a number whose first byte bears the label.

@@ -1,17 +1,17 @@
 ghost use Rattle.std.specs.Prelude.{◌≡◌, ◌↔◌, ◌<◌, ◌≤◌, ℕ, List, IsTrue, OnOk};
 ghost use Rattle.y2k_base.specs.declared.place.BytePlace.{BytePlace};
-ghost use Rattle.date_types.specs.declared.label.Fact.{Fact};
-ghost use Rattle.date_types.specs.declared.label.Role.{Role as AnyRole};
-ghost use Rattle.date_types.specs.declared.label.Role.TheVariants as roles;
-ghost use Rattle.date_types.specs.declared.rule.RuleForm.TheVariants as forms;
-ghost use Rattle.date_types.specs.Roles.{HasRole, Gives, label_of};
-ghost use Rattle.date_types.specs.Forms.{IsFitView, IsPassed, IsFilled, HasYearDigit, Follows};
+ghost use Rattle.year_labels.specs.declared.label.Fact.{Fact};
+ghost use Rattle.year_labels.specs.declared.label.Role.{Role as AnyRole};
+ghost use Rattle.year_labels.specs.declared.label.Role.TheVariants as roles;
+ghost use Rattle.year_labels.specs.declared.rule.RuleForm.TheVariants as forms;
+ghost use Rattle.year_labels.specs.Roles.{HasRole, Gives, label_of};
+ghost use Rattle.year_labels.specs.Forms.{IsFitView, IsPassed, IsFilled, HasYearDigit, Follows};
 ghost use Rattle.label_spread.specs.Steps.{Adds, IsPassedAs, IsPassedAt, IsFilledAt, MayFill, IsInView};
 
 use crate::bytes::{any_byte_bears, bytes_limit, is_in_span, label_bytes};
 use crate::known::Known;
 use crate::packed::{give_packed, has_packed_role};
-use date_types::{Label, Role, View};
+use year_labels::{Label, Role, View};
 use y2k_base::{BytePlace, Memory};
 
 fn label_for(role: Role) -> Label

@@ -1,10 +1,10 @@
 ghost use Rattle.std.specs.Prelude.{◌≡◌, ◌/◌, ◌<◌, ◌-◌, ◌^◌, ℕ, IfOk, OnOk, All, Contains};
-ghost use Rattle.date_types.specs.Forms.{IsFit, IsFitView, IsPlaced};
+ghost use Rattle.year_labels.specs.Forms.{IsFit, IsFitView, IsPlaced};
 ghost use Rattle.label_spread.specs.Steps.{IsInSpan, IsInView};
 ghost use Rattle.label_spread.specs.Slots.{Indexes, IsIndexOf, LooksAt, slot_of, slots_of_block};
 ghost use Rattle.label_spread.specs.declared.slots.Slot.{Slot as AnySlot};
 
-use date_types::{RuleForm, RuleInst, View};
+use year_labels::{RuleForm, RuleInst, View};
 use std::alloc::{AllocError, Global};
 use std::collections::BTreeSet;
 use y2k_base::{AreaId, BytePlace, Memory, Span};

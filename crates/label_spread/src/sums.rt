@@ -1,11 +1,11 @@
 ghost use Rattle.std.specs.Prelude.{◌≡◌, ◌⊎◌, ◌↔◌, true, false, IsTrue, OnOk};
-ghost use Rattle.date_types.specs.Forms.{IsFitView, IsByRows};
-ghost use Rattle.date_types.specs.Operands.{Is, Makes, Holds, HoldsIf, Fires, IsByRow, operand as the_operand};
+ghost use Rattle.year_labels.specs.Forms.{IsFitView, IsByRows};
+ghost use Rattle.year_labels.specs.Operands.{Is, Makes, Holds, HoldsIf, Fires, IsByRow, operand as the_operand};
 ghost use Rattle.label_spread.specs.Steps.{Adds};
 
 use crate::known::Known;
 use crate::roles::{give_role, has_role};
-use date_types::{Role, Row, Test, View, Who};
+use year_labels::{Role, Row, Test, View, Who};
 use y2k_base::Memory;
 
 /// Adds what follows by each of the rows.

@@ -1,8 +1,8 @@
 ghost use Rattle.std.specs.Prelude.{◌≡◌, IfOk, All};
-ghost use Rattle.date_types.specs.Forms.{IsFit, IsFitView};
+ghost use Rattle.year_labels.specs.Forms.{IsFit, IsFitView};
 
 use crate::spread;
-use date_types::{Fact, Label, Role, Rule, RuleForm, RuleInst, Seed, View};
+use year_labels::{Fact, Label, Role, Rule, RuleForm, RuleInst, Seed, View};
 use std::alloc::Global;
 use std::test::Fail;
 use y2k_base::{AreaId, BytePlace, FileId, List, Origin, Span};

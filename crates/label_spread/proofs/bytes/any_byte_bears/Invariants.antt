@@ -1,6 +1,6 @@
 use Rattle.std.proofs.Common.{ℕ, ◌<◌, Contains}
-use Rattle.date_types.specs.Facts.{fact_in}
-use Rattle.date_types.specs.Roles.{HoldsPower}
+use Rattle.year_labels.specs.Facts.{fact_in}
+use Rattle.year_labels.specs.Roles.{HoldsPower}
 use Rattle.label_spread.proofs.bytes.any_byte_bears.Given as goal
 
 abbrev pub invariant-loop-i : goal.invariant-loop-i

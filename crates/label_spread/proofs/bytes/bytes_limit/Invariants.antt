@@ -1,5 +1,5 @@
 use Rattle.std.proofs.Common.{ℕ, ◌<◌, ◌≤◌}
-use Rattle.date_types.specs.Roles.{HoldsPower}
+use Rattle.year_labels.specs.Roles.{HoldsPower}
 use Rattle.label_spread.proofs.bytes.bytes_limit.Given as goal
 
 abbrev pub invariant-loop-i : goal.invariant-loop-i

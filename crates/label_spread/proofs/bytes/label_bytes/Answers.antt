@@ -1,8 +1,8 @@
 use Rattle.std.proofs.Common.{◌≡◌, ℕ, List, Some, arith}
 use Rattle.std.proofs.lemmas.Option.{slice_get_within}
-use Rattle.date_types.specs.declared.label.Fact.{Fact}
-use Rattle.date_types.specs.Facts.{fact_in}
-use Rattle.date_types.specs.Roles.{HoldsPower}
+use Rattle.year_labels.specs.declared.label.Fact.{Fact}
+use Rattle.year_labels.specs.Facts.{fact_in}
+use Rattle.year_labels.specs.Roles.{HoldsPower}
 use Rattle.label_spread.proofs.Loops.{AddsBelow-more, AddsBelow-all}
 use Rattle.label_spread.proofs.bytes.label_bytes.Goals as goal
 

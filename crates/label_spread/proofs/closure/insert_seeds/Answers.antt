@@ -1,7 +1,7 @@
 use Rattle.std.proofs.Common.{◌≡◌, arith, List}
 use Rattle.std.proofs.lemmas.List.{get_or_default}
-use Rattle.date_types.specs.declared.label.Seed.{Seed}
-use Rattle.date_types.specs.declared.label.Fact.{Fact}
+use Rattle.year_labels.specs.declared.label.Seed.{Seed}
+use Rattle.year_labels.specs.declared.label.Fact.{Fact}
 use Rattle.label_spread.proofs.Loops.{AddsOver-more, AddsOver-all}
 use Rattle.label_spread.proofs.closure.insert_seeds.Goals as goal
 

@@ -1,6 +1,6 @@
 use Rattle.std.proofs.Common.{◌≡◌, List}
-use Rattle.date_types.specs.declared.label.Seed.{Seed}
-use Rattle.date_types.specs.declared.label.Fact.{Fact}
+use Rattle.year_labels.specs.declared.label.Seed.{Seed}
+use Rattle.year_labels.specs.declared.label.Fact.{Fact}
 use Rattle.label_spread.proofs.Loops.{AddsOver}
 use Rattle.label_spread.proofs.closure.insert_seeds.Given as goal
 

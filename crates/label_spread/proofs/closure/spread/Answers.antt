@@ -1,5 +1,5 @@
 use Rattle.std.proofs.Common.{◌↔◌, subst, List, Contains}
-use Rattle.date_types.specs.declared.label.Fact.{Fact}
+use Rattle.year_labels.specs.declared.label.Fact.{Fact}
 use Rattle.label_spread.proofs.Least.{Reached-all, AreDerivable-reached, AreDerivable-alike, IsLeast-alike}
 use Rattle.label_spread.proofs.closure.spread.Goals as goal
 

@@ -1,6 +1,6 @@
 use Rattle.std.proofs.Common.{arith}
-use Rattle.date_types.specs.declared.rule.RuleInst.{RuleInst}
-use Rattle.date_types.specs.Forms.{Follows}
+use Rattle.year_labels.specs.declared.rule.RuleInst.{RuleInst}
+use Rattle.year_labels.specs.Forms.{Follows}
 use Rattle.label_spread.proofs.Loops.{StartsOver-more, StartsOver-all}
 use Rattle.label_spread.proofs.closure.start_all.Goals as goal
 

@@ -1,5 +1,5 @@
-use Rattle.date_types.specs.declared.rule.RuleInst.{RuleInst}
-use Rattle.date_types.specs.Forms.{Follows}
+use Rattle.year_labels.specs.declared.rule.RuleInst.{RuleInst}
+use Rattle.year_labels.specs.Forms.{Follows}
 use Rattle.label_spread.proofs.Loops.{StartsOver}
 use Rattle.label_spread.proofs.closure.start_all.Given as goal
 

@@ -1,6 +1,6 @@
 use Rattle.std.proofs.Common.{subst, List}
-use Rattle.date_types.specs.declared.rows.Row.{Row}
-use Rattle.date_types.specs.Forms.{IsByRows}
+use Rattle.year_labels.specs.declared.rows.Row.{Row}
+use Rattle.year_labels.specs.Forms.{IsByRows}
 use Rattle.label_spread.specs.Steps.{Adds}
 use Rattle.label_spread.proofs.forms.apply_sum.Goals as goal
 

@@ -1,4 +1,4 @@
-use Rattle.date_types.specs.Forms.{IsCopied}
+use Rattle.year_labels.specs.Forms.{IsCopied}
 use Rattle.label_spread.proofs.Growth.{Reacts-both}
 use Rattle.label_spread.proofs.forms.react_alike.Goals as goal
 

@@ -1,6 +1,6 @@
 use Rattle.std.proofs.Common.{◌≡◌, inl, inr, ℕ, sym, ◌∙◌, subst, arith, Contains}
 use Rattle.std.proofs.lemmas.Bool.{cases_lt, false≢true}
-use Rattle.date_types.specs.Facts.{fact_in}
+use Rattle.year_labels.specs.Facts.{fact_in}
 use Rattle.label_spread.specs.Steps.{label_on}
 use Rattle.label_spread.proofs.packed.any_bears.Goals as goal
 

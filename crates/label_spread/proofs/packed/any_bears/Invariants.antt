@@ -1,5 +1,5 @@
 use Rattle.std.proofs.Common.{ℕ, ◌<◌, Contains}
-use Rattle.date_types.specs.Facts.{fact_in}
+use Rattle.year_labels.specs.Facts.{fact_in}
 use Rattle.label_spread.specs.Steps.{label_on}
 use Rattle.label_spread.proofs.packed.any_bears.Given as goal
 

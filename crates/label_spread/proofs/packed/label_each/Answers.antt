@@ -1,6 +1,6 @@
 use Rattle.std.proofs.Common.{◌≡◌, ℕ, ◌<◌, List, arith}
-use Rattle.date_types.specs.declared.label.Fact.{Fact}
-use Rattle.date_types.specs.Facts.{fact_in}
+use Rattle.year_labels.specs.declared.label.Fact.{Fact}
+use Rattle.year_labels.specs.Facts.{fact_in}
 use Rattle.label_spread.specs.Steps.{label_on}
 use Rattle.label_spread.proofs.Growth.{Adds-alike}
 use Rattle.label_spread.proofs.Loops.{AddsBelow-more, AddsBelow-all}

@@ -1,5 +1,5 @@
 use Rattle.std.proofs.Common.{arith}
-use Rattle.date_types.specs.declared.label.Role.TheVariants as roles
+use Rattle.year_labels.specs.declared.label.Role.TheVariants as roles
 use Rattle.label_spread.specs.Steps.{IsFilledAt}
 use Rattle.label_spread.proofs.Loops.{AddsBelow-more, AddsBelow-all}
 use Rattle.label_spread.proofs.Local.{IsFilledAt-monotone}

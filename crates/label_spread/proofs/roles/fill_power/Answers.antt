@@ -1,8 +1,8 @@
 use Rattle.std.proofs.Common.{sym, ◌∙◌, List}
-use Rattle.date_types.specs.declared.label.Fact.{Fact}
+use Rattle.year_labels.specs.declared.label.Fact.{Fact}
 use Rattle.std.proofs.lemmas.Bool.{false≢true}
-use Rattle.date_types.specs.declared.label.Role.TheVariants as roles
-use Rattle.date_types.specs.Roles.{Gives}
+use Rattle.year_labels.specs.declared.label.Role.TheVariants as roles
+use Rattle.year_labels.specs.Roles.{Gives}
 use Rattle.label_spread.specs.Steps.{MayFill}
 use Rattle.label_spread.proofs.Growth.{Adds-where, Adds-nowhere}
 use Rattle.label_spread.proofs.Local.{MayFill-grows}

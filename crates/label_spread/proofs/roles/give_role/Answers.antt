@@ -1,9 +1,9 @@
 use Rattle.std.proofs.Common.{◌≡◌, subst, List, Option, ℕ}
-use Rattle.date_types.specs.declared.label.Fact.{Fact}
+use Rattle.year_labels.specs.declared.label.Fact.{Fact}
 use Rattle.y2k_base.specs.declared.place.Span.{Span}
-use Rattle.date_types.specs.declared.label.Label.{Label}
-use Rattle.date_types.specs.Facts.{fact_in}
-use Rattle.date_types.specs.Roles.{HoldsPower}
+use Rattle.year_labels.specs.declared.label.Label.{Label}
+use Rattle.year_labels.specs.Facts.{fact_in}
+use Rattle.year_labels.specs.Roles.{HoldsPower}
 use Rattle.label_spread.specs.Steps.{Adds}
 use Rattle.label_spread.proofs.roles.give_role.Goals as goal
 

@@ -1,6 +1,6 @@
 use Rattle.std.proofs.Common.{ℕ, ◌<◌, Contains, get_or}
 use Rattle.y2k_base.specs.declared.place.BytePlace.{BytePlace}
-use Rattle.date_types.specs.declared.rule.RuleInst.{RuleInst}
+use Rattle.year_labels.specs.declared.rule.RuleInst.{RuleInst}
 use Rattle.label_spread.specs.Slots.{slot_of, LooksAt}
 use Rattle.label_spread.proofs.slots.index_rules.Given as goal
 

@@ -2,7 +2,7 @@ use Rattle.std.proofs.Common.{subst, sym, List, Contains}
 use Rattle.label_spread.specs.declared.slots.Slot.{Slot}
 use Rattle.label_spread.specs.Slots.{slot_cmp}
 use Rattle.label_spread.proofs.Blocks.{slot_exact}
-use Rattle.date_types.proofs.Keys.{insert_key-new, insert_key-old}
+use Rattle.year_labels.proofs.Keys.{insert_key-new, insert_key-old}
 use Rattle.label_spread.proofs.slots.insert_slot.Goals as goal
 
 pub returns-clause-there : goal.returns-clause-there

@@ -1,8 +1,8 @@
 use Rattle.std.proofs.Common.{sym, ◌∙◌, subst, List}
 use Rattle.std.proofs.lemmas.Bool.{false≢true}
-use Rattle.date_types.specs.declared.label.Fact.{Fact}
-use Rattle.date_types.specs.declared.rule.View.{View}
-use Rattle.date_types.specs.Operands.{Fires, Makes, operand}
+use Rattle.year_labels.specs.declared.label.Fact.{Fact}
+use Rattle.year_labels.specs.declared.rule.View.{View}
+use Rattle.year_labels.specs.Operands.{Fires, Makes, operand}
 use Rattle.label_spread.specs.Steps.{Adds}
 use Rattle.label_spread.proofs.Growth.{Adds-where, Adds-nowhere}
 use Rattle.label_spread.proofs.Local.{Fires-grows}

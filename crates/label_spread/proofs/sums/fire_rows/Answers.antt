@@ -1,6 +1,6 @@
 use Rattle.std.proofs.Common.{arith}
 use Rattle.std.proofs.lemmas.List.{get_or_default}
-use Rattle.date_types.specs.Operands.{IsByRow}
+use Rattle.year_labels.specs.Operands.{IsByRow}
 use Rattle.label_spread.proofs.Loops.{AddsOver-more, AddsOver-all}
 use Rattle.label_spread.proofs.Local.{IsByRow-monotone}
 use Rattle.label_spread.proofs.sums.fire_rows.Goals as goal

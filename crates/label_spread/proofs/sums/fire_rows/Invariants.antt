@@ -1,4 +1,4 @@
-use Rattle.date_types.specs.Operands.{IsByRow}
+use Rattle.year_labels.specs.Operands.{IsByRow}
 use Rattle.label_spread.proofs.Loops.{AddsOver}
 use Rattle.label_spread.proofs.sums.fire_rows.Given as goal
 

@@ -1,7 +1,7 @@
 use Rattle.std.proofs.Common.{List}
-use Rattle.date_types.specs.declared.label.Fact.{Fact}
-use Rattle.date_types.specs.declared.label.Role.TheVariants as roles
-use Rattle.date_types.specs.Roles.{Gives}
+use Rattle.year_labels.specs.declared.label.Fact.{Fact}
+use Rattle.year_labels.specs.declared.label.Role.TheVariants as roles
+use Rattle.year_labels.specs.Roles.{Gives}
 use Rattle.label_spread.proofs.Growth.{Adds-both}
 use Rattle.label_spread.proofs.Local.{Gives-monotone}
 use Rattle.label_spread.proofs.sums.make_plain.Goals as goal

@@ -1,6 +1,6 @@
 use Rattle.std.proofs.Common.{All}
-use Rattle.date_types.specs.declared.rule.RuleInst.{RuleInst}
-use Rattle.date_types.specs.Forms.{IsFit}
+use Rattle.year_labels.specs.declared.rule.RuleInst.{RuleInst}
+use Rattle.year_labels.specs.Forms.{IsFit}
 use Rattle.label_spread.proofs.tests.moves.Given as goal
 
 abbrev pub invariant-loop-i : goal.invariant-loop-i

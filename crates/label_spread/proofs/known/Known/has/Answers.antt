@@ -1,5 +1,5 @@
 use Rattle.std.proofs.Common.{sym, subst, List, Contains}
-use Rattle.date_types.specs.declared.label.Fact.{Fact}
+use Rattle.year_labels.specs.declared.label.Fact.{Fact}
 use Rattle.label_spread.proofs.known.Known.has.Goals as goal
 
 pub returns : goal.returns

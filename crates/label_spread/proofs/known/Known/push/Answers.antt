@@ -1,5 +1,5 @@
 use Rattle.std.proofs.Common.{◌++◌, ◌∷◌, [], ◌∙◌, ap, sym, subst, List}
-use Rattle.date_types.specs.declared.label.Fact.{Fact}
+use Rattle.year_labels.specs.declared.label.Fact.{Fact}
 use Rattle.label_spread.specs.Steps.{HaveSameFacts}
 use Rattle.label_spread.proofs.Index.{indexed_more}
 use Rattle.label_spread.proofs.known.Known.push.Goals as goal

@@ -6,9 +6,9 @@ use Rattle.std.specs.Ordering.{match_ordering}
 use Rattle.std.specs.BTreeSet.{insert_key}
 use Rattle.std.proofs.lemmas.List.{take_more}
 use Rattle.std.proofs.lemmas.List.Elements.{Contains-append_left, Contains-append_right, Contains-append_cases, Contains-push, Contains-push_cases}
-use Rattle.date_types.specs.declared.label.Fact.{Fact}
-use Rattle.date_types.specs.Order.{fact_cmp}
-use Rattle.date_types.proofs.Total.{fact_exact}
+use Rattle.year_labels.specs.declared.label.Fact.{Fact}
+use Rattle.year_labels.specs.Order.{fact_cmp}
+use Rattle.year_labels.proofs.Total.{fact_exact}
 
 module _ {K : Type 0} (cmp : K → K → Ordering) (exact : (x y : K) → cmp x y ≡ Equal → x ≡ y) where
   front : (x : K) (xs : List K) (q : K) → Contains xs q → Contains (x ∷ xs) q

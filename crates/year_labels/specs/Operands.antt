@@ -1,13 +1,13 @@
 -- The operands of a sum or a difference: numbers of two digits that are a year or plain, and what a row says of them.
 use Rattle.std.specs.Prelude.{◌⊎◌, ℕ, Bool, true, false, List, Option, Some, None}
-use Rattle.date_types.specs.declared.label.Fact.{Fact}
-use Rattle.date_types.specs.declared.label.Role.TheVariants as roles
-use Rattle.date_types.specs.declared.rows.Who.{Who}
-use Rattle.date_types.specs.declared.rows.Who.TheVariants.{A, B, C}
-use Rattle.date_types.specs.declared.rows.Test.{Test}
-use Rattle.date_types.specs.declared.rows.Row.{Row}
-use Rattle.date_types.specs.declared.rule.View.{View}
-use Rattle.date_types.specs.Roles.{HasRole, Gives}
+use Rattle.year_labels.specs.declared.label.Fact.{Fact}
+use Rattle.year_labels.specs.declared.label.Role.TheVariants as roles
+use Rattle.year_labels.specs.declared.rows.Who.{Who}
+use Rattle.year_labels.specs.declared.rows.Who.TheVariants.{A, B, C}
+use Rattle.year_labels.specs.declared.rows.Test.{Test}
+use Rattle.year_labels.specs.declared.rows.Row.{Row}
+use Rattle.year_labels.specs.declared.rule.View.{View}
+use Rattle.year_labels.specs.Roles.{HasRole, Gives}
 
 -- the number is a year, if that is asked, and else it is plain
 abbrev pub Is : List Fact → View → Bool → Type 0

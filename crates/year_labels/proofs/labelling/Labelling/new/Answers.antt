@@ -1,8 +1,8 @@
 use Rattle.std.proofs.Common.{◌≡◌, ◌∙◌, sym, ap, subst, arith, List, take, Contains}
 use Rattle.std.proofs.lemmas.List.{take_all, get_or_default}
-use Rattle.date_types.specs.declared.label.Fact.{Fact}
-use Rattle.date_types.proofs.Keys.{AreKeysOf-more}
-use Rattle.date_types.proofs.labelling.Labelling.new.Goals as goal
+use Rattle.year_labels.specs.declared.label.Fact.{Fact}
+use Rattle.year_labels.proofs.Keys.{AreKeysOf-more}
+use Rattle.year_labels.proofs.labelling.Labelling.new.Goals as goal
 
 pub loop-i-preserved : goal.loop-i-preserved
 loop-i-preserved c =

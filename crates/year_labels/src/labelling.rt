@@ -1,6 +1,6 @@
 ghost use Rattle.std.specs.Prelude.{◌≡◌, ◌↔◌, IsTrue, IfOk, Contains, length, slice_get};
-ghost use Rattle.date_types.specs.Order.{IsAscending};
-ghost use Rattle.date_types.specs.Facts.{IsClean, fact_of};
+ghost use Rattle.year_labels.specs.Order.{IsAscending};
+ghost use Rattle.year_labels.specs.Facts.{IsClean, fact_of};
 
 use crate::order::{insert_key_of, is_there, keys_of};
 use crate::{Fact, Label};
@@ -18,11 +18,11 @@ pub struct Labelling {
 
 impl Model for Labelling {
     ghost use Rattle.std.specs.Prelude.{List};
-    ghost use Rattle.date_types.specs.declared.label.Fact.{Fact};
+    ghost use Rattle.year_labels.specs.declared.label.Fact.{Fact};
 
     ghost Value = { List Fact };
 
-    ghost use Rattle.date_types.specs.Order.{IsAscending};
+    ghost use Rattle.year_labels.specs.Order.{IsAscending};
 
     ghost view = { λ a. a.facts.items };
 

@@ -1,7 +1,7 @@
 use Rattle.std.proofs.Common.{◌≡◌, refl, true, false}
-use Rattle.date_types.specs.Order.{fact_cmp}
-use Rattle.date_types.proofs.Total.{found, missing, rises, fact_total}
-use Rattle.date_types.proofs.order.is_there.Goals as goal
+use Rattle.year_labels.specs.Order.{fact_cmp}
+use Rattle.year_labels.proofs.Total.{found, missing, rises, fact_total}
+use Rattle.year_labels.proofs.order.is_there.Goals as goal
 
 pub returns-in-Ok : goal.returns-in-Ok
 returns-in-Ok c =

@@ -1,19 +1,19 @@
 -- What follows by a rule.
 use Rattle.std.specs.Prelude.{◌≡◌, ◌⊎◌, ℕ, ◌+◌, ◌/◌, ◌<◌, ◌≤◌, ◌^◌, List, length, Contains}
 use Rattle.y2k_base.specs.declared.place.Span.{Span}
-use Rattle.date_types.specs.declared.label.Fact.{Fact}
-use Rattle.date_types.specs.declared.label.Label.{Label}
-use Rattle.date_types.specs.declared.label.Role.{Role}
-use Rattle.date_types.specs.declared.label.Role.TheVariants as roles
-use Rattle.date_types.specs.declared.rows.Row.{Row}
-use Rattle.date_types.specs.declared.rule.View.{View}
-use Rattle.date_types.specs.declared.rule.View.TheVariants as views
-use Rattle.date_types.specs.declared.rule.RuleForm.{RuleForm}
-use Rattle.date_types.specs.declared.rule.RuleForm.TheVariants as forms
-use Rattle.date_types.specs.Facts.{fact_in}
-use Rattle.date_types.specs.Roles.{HasRole, Gives}
-use Rattle.date_types.specs.Rows.{add_rows, sub_rows}
-use Rattle.date_types.specs.Operands.{IsByRow}
+use Rattle.year_labels.specs.declared.label.Fact.{Fact}
+use Rattle.year_labels.specs.declared.label.Label.{Label}
+use Rattle.year_labels.specs.declared.label.Role.{Role}
+use Rattle.year_labels.specs.declared.label.Role.TheVariants as roles
+use Rattle.year_labels.specs.declared.rows.Row.{Row}
+use Rattle.year_labels.specs.declared.rule.View.{View}
+use Rattle.year_labels.specs.declared.rule.View.TheVariants as views
+use Rattle.year_labels.specs.declared.rule.RuleForm.{RuleForm}
+use Rattle.year_labels.specs.declared.rule.RuleForm.TheVariants as forms
+use Rattle.year_labels.specs.Facts.{fact_in}
+use Rattle.year_labels.specs.Roles.{HasRole, Gives}
+use Rattle.year_labels.specs.Rows.{add_rows, sub_rows}
+use Rattle.year_labels.specs.Operands.{IsByRow}
 
 -- a byte of the one span bears the label, and the fact is that the same byte of the other does
 abbrev pub IsCopied : Span → Span → List Fact → Fact → Type 0

@@ -1,7 +1,7 @@
 use Rattle.std.proofs.Common.{◌≡◌, ◌-◌, arith, refl, true, false}
 use Rattle.std.proofs.lemmas.List.{get_or_default}
-use Rattle.date_types.proofs.Clean.{AreApart, clean_all, unclean}
-use Rattle.date_types.proofs.labelling.have_places_of_their_own.Goals as goal
+use Rattle.year_labels.proofs.Clean.{AreApart, clean_all, unclean}
+use Rattle.year_labels.proofs.labelling.have_places_of_their_own.Goals as goal
 
 pub returns-then-are_of_one_place : goal.returns-then-are_of_one_place
 returns-then-are_of_one_place c =

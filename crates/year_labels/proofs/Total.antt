@@ -11,12 +11,12 @@ use Rattle.std.proofs.lemmas.Map.Keys.{sorted_tail}
 use Rattle.std.proofs.lemmas.Map.Views.{All-after_first}
 use Rattle.std.proofs.lemmas.Bool.{cases_lt}
 use Rattle.y2k_base.specs.declared.place.BytePlace.{BytePlace}
-use Rattle.date_types.specs.declared.label.Fact.{Fact}
-use Rattle.date_types.specs.declared.label.Label.{Label}
-use Rattle.date_types.specs.declared.label.Label.TheVariants.{Tens, Units, Plain, Packed}
-use Rattle.date_types.specs.contracts.label.FactOrd.TheImpl as derived
-use Rattle.date_types.specs.Facts.{fact_of}
-use Rattle.date_types.specs.Order.{fact_cmp, place_cmp, label_cmp, IsAscending}
+use Rattle.year_labels.specs.declared.label.Fact.{Fact}
+use Rattle.year_labels.specs.declared.label.Label.{Label}
+use Rattle.year_labels.specs.declared.label.Label.TheVariants.{Tens, Units, Plain, Packed}
+use Rattle.year_labels.specs.contracts.label.FactOrd.TheImpl as derived
+use Rattle.year_labels.specs.Facts.{fact_of}
+use Rattle.year_labels.specs.Order.{fact_cmp, place_cmp, label_cmp, IsAscending}
 
 -- a label as four numbers
 abbrev kind : Label → ℕ

@@ -1,5 +1,5 @@
 ghost use Rattle.std.specs.Prelude.{◌≡◌};
-ghost use Rattle.date_types.specs.Rows as rows;
+ghost use Rattle.year_labels.specs.Rows as rows;
 
 /// One of the three operands of a sum `c = a + b` or of a difference `c = b - a`.
 #[derive(Clone, Copy, Debug, PartialEq, Eq)]

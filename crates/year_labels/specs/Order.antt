@@ -5,9 +5,9 @@ use Rattle.std.specs.declared.cmp.Ordering.{Ordering}
 use Rattle.std.specs.declared.cmp.Ordering.TheVariants.{Less, Equal, Greater}
 use Rattle.std.specs.Ordering.{nat_cmp, ordering_then}
 use Rattle.y2k_base.specs.declared.place.BytePlace.{BytePlace}
-use Rattle.date_types.specs.declared.label.Fact.{Fact}
-use Rattle.date_types.specs.declared.label.Label.{Label}
-use Rattle.date_types.specs.declared.label.Label.TheVariants.{Tens, Units, Plain, Packed}
+use Rattle.year_labels.specs.declared.label.Fact.{Fact}
+use Rattle.year_labels.specs.declared.label.Label.{Label}
+use Rattle.year_labels.specs.declared.label.Label.TheVariants.{Tens, Units, Plain, Packed}
 
 -- by area, then by offset
 abbrev pub place_cmp : BytePlace → BytePlace → Ordering

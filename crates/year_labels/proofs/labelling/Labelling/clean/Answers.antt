@@ -1,7 +1,7 @@
 use Rattle.std.proofs.Common.{◌≡◌, ◌↔◌, ◌∙◌, subst, List, IsTrue}
-use Rattle.date_types.specs.declared.label.Fact.{Fact}
-use Rattle.date_types.specs.Facts.{IsClean}
-use Rattle.date_types.proofs.labelling.Labelling.clean.Goals as goal
+use Rattle.year_labels.specs.declared.label.Fact.{Fact}
+use Rattle.year_labels.specs.Facts.{IsClean}
+use Rattle.year_labels.proofs.labelling.Labelling.clean.Goals as goal
 
 pub returns : goal.returns
 returns c =

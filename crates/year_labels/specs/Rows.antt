@@ -1,9 +1,9 @@
 -- What the operands of a sum and of a difference say about each other.
 use Rattle.std.specs.Prelude.{List, [], ◌∷◌, true, false, Some, None}
-use Rattle.date_types.specs.declared.rows.Who.{Who}
-use Rattle.date_types.specs.declared.rows.Who.TheVariants.{A, B, C}
-use Rattle.date_types.specs.declared.rows.Test.{Test}
-use Rattle.date_types.specs.declared.rows.Row.{Row}
+use Rattle.year_labels.specs.declared.rows.Who.{Who}
+use Rattle.year_labels.specs.declared.rows.Who.TheVariants.{A, B, C}
+use Rattle.year_labels.specs.declared.rows.Test.{Test}
+use Rattle.year_labels.specs.declared.rows.Row.{Row}
 
 abbrev pub year : Who → Test
 year who = record { who = who; year = true }

@@ -1,7 +1,7 @@
 ghost use Rattle.std.specs.Prelude.{◌≡◌, ◌↔◌, IsTrue, IfOk, OnOk, Contains, length};
 ghost use Rattle.std.specs.BTreeSet.{insert_key};
 ghost use Rattle.std.specs.List.Sorted.{IsBinarySearchResult, IsSearchInRange};
-ghost use Rattle.date_types.specs.Order.{IsAscending, fact_cmp};
+ghost use Rattle.year_labels.specs.Order.{IsAscending, fact_cmp};
 
 use crate::Fact;
 use std::alloc::{AllocError, Global};

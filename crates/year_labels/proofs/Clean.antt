@@ -9,10 +9,10 @@ use Rattle.std.proofs.lemmas.Cmp.{ranked}
 use Rattle.std.proofs.lemmas.List.{get_or_default}
 use Rattle.std.proofs.lemmas.List.Elements.{Contains-get_or}
 use Rattle.y2k_base.specs.declared.place.BytePlace.{BytePlace}
-use Rattle.date_types.specs.declared.label.Fact.{Fact}
-use Rattle.date_types.specs.Facts.{IsClean, fact_of}
-use Rattle.date_types.specs.Order.{fact_cmp, place_cmp, label_cmp, IsAscending}
-use Rattle.date_types.proofs.Total.{less_before, fact_total}
+use Rattle.year_labels.specs.declared.label.Fact.{Fact}
+use Rattle.year_labels.specs.Facts.{IsClean, fact_of}
+use Rattle.year_labels.specs.Order.{fact_cmp, place_cmp, label_cmp, IsAscending}
+use Rattle.year_labels.proofs.Total.{less_before, fact_total}
 
 -- not after it
 abbrev IsUpTo : BytePlace → BytePlace → Type 0

@@ -2,8 +2,8 @@
 use Rattle.std.specs.Prelude.{◌≡◌, ℕ, ◌+◌, List, Contains}
 use Rattle.y2k_base.specs.declared.place.BytePlace.{BytePlace}
 use Rattle.y2k_base.specs.declared.place.Span.{Span}
-use Rattle.date_types.specs.declared.label.Fact.{Fact}
-use Rattle.date_types.specs.declared.label.Label.{Label}
+use Rattle.year_labels.specs.declared.label.Fact.{Fact}
+use Rattle.year_labels.specs.declared.label.Label.{Label}
 
 -- that the byte bears the label
 abbrev pub fact_of : BytePlace → Label → Fact

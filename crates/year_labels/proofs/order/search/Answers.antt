@@ -1,9 +1,9 @@
 use Rattle.std.proofs.Common.{◌≡◌, subst}
 use Rattle.std.specs.declared.cmp.Ordering.{Ordering}
 use Rattle.std.specs.List.Sorted.{IsBinarySearchResult}
-use Rattle.date_types.specs.declared.label.Fact.{Fact}
-use Rattle.date_types.proofs.Total.{same_cmp}
-use Rattle.date_types.proofs.order.search.Goals as goal
+use Rattle.year_labels.specs.declared.label.Fact.{Fact}
+use Rattle.year_labels.proofs.Total.{same_cmp}
+use Rattle.year_labels.proofs.order.search.Goals as goal
 
 pub returns-clause-place : goal.returns-clause-place
 returns-clause-place c =
