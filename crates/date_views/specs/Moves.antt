@@ -1,5 +1,6 @@
 -- The rules of a move and of a comparison of two operands.
 use Rattle.std.specs.Prelude.{ℕ, zero, suc, ◌+◌, ◌-◌, ◌==◌, ◌&&◌, min, List, [], ◌∷◌, ◌++◌, if◌then◌else◌}
+use Rattle.y2k_base.specs.declared.place.Span.{Span}
 use Rattle.y2k_base.specs.declared.word.Origin.{Origin}
 use Rattle.cobol_syntax.specs.declared.statement.Register.{Register}
 use Rattle.cobol_syntax.specs.declared.statement.Register.TheVariants as register
@@ -18,9 +19,12 @@ use Rattle.date_views.specs.Sides.{kind_of}
 use Rattle.date_views.specs.Uses.{inst, is_plain, front, plain_bytes, plain_between}
 
 -- byte i of both is alike, up to the shorter. A reference that may stand anywhere makes plain each byte that it may meet
+abbrev pub span_rules : Origin → Span → Side → List RuleInst
+span_rules at a (sides.Known b) = inst rules.Bytes at (forms.Alike (front a b.span.length) (front b.span a.length)) ∷ []
+span_rules at a (sides.Moving most) = plain_bytes rules.Bytes at (front a most)
+
 abbrev pub copy_rules : Origin → Side → Side → List RuleInst
-copy_rules at (sides.Known a) (sides.Known b) = inst rules.Bytes at (forms.Alike (front a.span b.span.length) (front b.span a.span.length)) ∷ []
-copy_rules at (sides.Known a) (sides.Moving most) = plain_bytes rules.Bytes at (front a.span most)
+copy_rules at (sides.Known a) to = span_rules at a.span to
 copy_rules at (sides.Moving most) (sides.Known b) = plain_bytes rules.Bytes at (front b.span most)
 copy_rules at (sides.Moving most) (sides.Moving other) = []
 

@@ -12,6 +12,7 @@ use Rattle.year_labels.specs.declared.rule.View.{View}
 use Rattle.year_labels.specs.declared.rule.View.TheVariants as views
 use Rattle.year_labels.specs.declared.rule.RuleForm.TheVariants as forms
 use Rattle.year_labels.specs.declared.rule.RuleInst.{RuleInst}
+use Rattle.date_views.specs.declared.side.Field.{Field}
 use Rattle.date_views.specs.declared.side.Side.{Side}
 use Rattle.date_views.specs.declared.side.Side.TheVariants as sides
 use Rattle.date_views.specs.Uses.{inst, use_rules}
@@ -29,17 +30,23 @@ takes_part kind.Text = false
 takes_part (kind.Edited form) = false
 takes_part (kind.Number usage form) = (form.digits == 2 && form.scale == 0) && may_show_years usage form
 
+abbrev pub field_part : Field → View
+field_part field = if takes_part field.kind then field.view else views.Plain
+
 -- how an operand takes part: as it is, or as one whose digits are plain. A literal, which is no side, is plain
 abbrev pub part : Option Side → View
 part None = views.Plain
-part (Some (sides.Known field)) = if takes_part field.kind then field.view else views.Plain
+part (Some (sides.Known field)) = field_part field
 part (Some (sides.Moving most)) = views.Plain
+
+abbrev pub stands_aside : Side → Bool
+stands_aside (sides.Known field) = not (takes_part field.kind)
+stands_aside (sides.Moving most) = false
 
 -- an item that doesn't take part as it is, is plain
 abbrev pub aside : Rule → Origin → Option Side → List RuleInst
 aside rule at None = []
-aside rule at (Some (sides.Known field)) = if takes_part field.kind then [] else use_rules rule at (sides.Known field)
-aside rule at (Some (sides.Moving most)) = []
+aside rule at (Some side) = if stands_aside side then use_rules rule at side else []
 
 abbrev pub all_aside : Rule → Origin → Option Side → Option Side → Option Side → List RuleInst
 all_aside rule at a b c = aside rule at a ++ (aside rule at b ++ aside rule at c)

@@ -1,7 +1,7 @@
 ghost use Rattle.std.specs.Prelude.{◌≡◌, ◌-◌, ◌++◌, ◌∷◌, [], OnOk};
 ghost use Rattle.date_views.specs.Uses as spec;
 ghost use Rattle.year_labels.specs.declared.label.Role.TheVariants as roles;
-ghost use Rattle.year_labels.specs.declared.rule.Rule.TheVariants as rules;
+ghost use Rattle.year_labels.specs.declared.rule.Rule.TheVariants as rule_names;
 ghost use Rattle.year_labels.specs.declared.rule.RuleForm.TheVariants as forms;
 
 use crate::side::Side;
@@ -106,7 +106,7 @@ fn add_plain_digit(
     view: &View,
     power: u8,
 ) -> Result<(), Memory>
-    ensures { OnOk result (rules.new ≡ rules.old ++ spec.inst rules.Digits at (forms.GiveDigit view.now power roles.Plain) ∷ []) }
+    ensures { OnOk result (rules.new ≡ rules.old ++ spec.inst rule_names.Digits at (forms.GiveDigit view.now power roles.Plain) ∷ []) }
 {
     let form = RuleForm::GiveDigit {
         view: view.twin(alloc)?,
