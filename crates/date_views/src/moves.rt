@@ -10,8 +10,8 @@ use crate::uses::{add_plain_between, add_plain_bytes, front, is_plain};
 use crate::view::all_digits;
 use operand_kinds::{compares_values, copies_bytes};
 use std::alloc::Global;
-use year_labels::{Rule, RuleForm, RuleInst, View};
 use y2k_base::{List, Memory, Origin, Span, Twin};
+use year_labels::{Rule, RuleForm, RuleInst, View};
 
 /// Adds that byte i of both sides is alike, up to the shorter, and that a reference that may stand anywhere makes plain
 /// each byte that it may meet. This is the rule of READ INTO and WRITE FROM, of other copies, and of comparisons by bytes.

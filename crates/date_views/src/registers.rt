@@ -10,8 +10,8 @@ use crate::uses::front;
 use crate::view::all_digits;
 use cobol_syntax::Register;
 use std::alloc::Global;
-use year_labels::{Role, Rule, RuleForm, RuleInst, View};
 use y2k_base::{List, Memory, Origin, Twin};
+use year_labels::{Role, Rule, RuleForm, RuleInst, View};
 
 /// YYMMDD, YYDDD, and a time without a year.
 fn register_digits(from: Register) -> u8

@@ -9,8 +9,8 @@ use cobol_syntax::Place;
 use data_layout::{Item, Layout};
 use operand_kinds::{Kind, Reach, Seen, see};
 use std::alloc::Global;
-use year_labels::View;
 use y2k_base::{List, Memory, Run, Span};
+use year_labels::View;
 
 /// An item, or a part of it whose bounds are written as numbers. Of a table it is the first occurrence.
 #[derive(Debug)]

@@ -7,8 +7,8 @@ use cobol_syntax::Usage;
 use decimal_bytes::NumForm;
 use operand_kinds::Kind;
 use std::alloc::Global;
-use year_labels::{Rule, RuleForm, RuleInst, View};
 use y2k_base::{List, Memory, Origin, Twin};
+use year_labels::{Rule, RuleForm, RuleInst, View};
 
 fn may_show_years(usage: Usage, form: NumForm) -> bool
     ensures { result ≡ spec.may_show_years usage form }

@@ -1,4 +1,4 @@
-ghost use Rattle.std.specs.Prelude.{◌≡◌, ◌-◌, ◌++◌, ◌∷◌, [], OnOk};
+ghost use Rattle.std.specs.Prelude.{◌≡◌, ◌≤◌, ◌-◌, ◌++◌, ◌∷◌, [], OnOk};
 ghost use Rattle.date_views.specs.Uses as spec;
 ghost use Rattle.year_labels.specs.declared.label.Role.TheVariants as roles;
 ghost use Rattle.year_labels.specs.declared.rule.Rule.TheVariants as rule_names;
@@ -11,8 +11,8 @@ use data_layout::Item;
 use decimal_bytes::NumForm;
 use operand_kinds::{Kind, kind_of_item};
 use std::alloc::Global;
-use year_labels::{Role, Rule, RuleForm, RuleInst, View};
 use y2k_base::{List, Memory, Origin, Run, Span, Twin};
+use year_labels::{Role, Rule, RuleForm, RuleInst, View};
 
 pub(crate) fn is_plain(view: &View) -> bool
     ensures { result ≡ spec.is_plain view.now }
@@ -31,7 +31,11 @@ pub(crate) fn front(span: Span, most: u32) -> Span
     Span {
         area: span.area,
         offset: span.offset,
-        length: if span.length < most { span.length } else { most },
+        length: if span.length < most {
+            span.length
+        } else {
+            most
+        },
     }
 }
 
@@ -129,6 +133,7 @@ fn add_plain_powers(
     low: u8,
     high: u8,
 ) -> Result<(), Memory>
+    requires { low ≤ high }
     ensures { OnOk result (rules.new ≡ rules.old ++ spec.plain_powers at view.now low (high - low)) }
 {
     for power in low..high {
@@ -146,6 +151,7 @@ pub(crate) fn add_plain_between(
     low: u8,
     high: u8,
 ) -> Result<(), Memory>
+    requires { low ≤ high }
     ensures { OnOk result (rules.new ≡ rules.old ++ spec.plain_between at view.now low high) }
 {
     if is_plain(view) {

@@ -5,8 +5,8 @@ use cobol_syntax::Usage;
 use decimal_bytes::NumForm;
 use operand_kinds::Kind;
 use std::alloc::Global;
-use year_labels::View;
 use y2k_base::{AreaId, List, Memory, Picture, Run, Span};
+use year_labels::View;
 
 fn is_digit(symbol: u8) -> bool
     ensures { result ≡ spec.is_digit symbol }
@@ -258,12 +258,7 @@ fn number_view(
 }
 
 /// The digits of an item or of a part of one.
-pub(crate) fn view_of(
-    alloc: Global,
-    kind: Kind,
-    runs: &[Run],
-    span: Span,
-) -> Result<View, Memory>
+pub(crate) fn view_of(alloc: Global, kind: Kind, runs: &[Run], span: Span) -> Result<View, Memory>
     ensures { IfOk result (λ view. view ≡ spec.view_of kind runs.now span) }
 {
     match kind {
