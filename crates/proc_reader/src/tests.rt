@@ -287,12 +287,12 @@ fn show_statement(alloc: Global, statement: &Statement, out: &mut Bytes) -> Resu
         statement.id.number, statement.at, statement.end
     )?;
     add(out, text.as_bytes())?;
-    show_form(alloc, &statement.form, out)
+    show_action(alloc, &statement.form, out)
 }
 
 /// What a statement does.
 #[cycle(show)]
-fn show_form(alloc: Global, form: &Form, out: &mut Bytes) -> Result<(), Memory> {
+fn show_action(alloc: Global, form: &Form, out: &mut Bytes) -> Result<(), Memory> {
     match form {
         Form::Compute {
             to,

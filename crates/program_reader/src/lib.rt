@@ -13,6 +13,8 @@ mod read;
 mod reading;
 mod select;
 mod term;
+#[cfg(test)]
+mod tests;
 mod text;
 mod unit;
 mod unit_fault;
