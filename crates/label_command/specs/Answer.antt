@@ -8,7 +8,7 @@ use Rattle.text_load.specs.declared.LoadFault.TheVariants as load
 use Rattle.year_labels.specs.declared.label.Fact.{Fact}
 use Rattle.year_labels.specs.Facts.{IsClean}
 use Rattle.year_labels.specs.Order.{IsAscending}
-use Rattle.label_spread.specs.Derivation.{AreDerivable}
+use Rattle.year_labels.specs.Derivation.{AreDerivable}
 use Rattle.cobol_syntax.specs.declared.program.Program.{Program}
 use Rattle.label_command.specs.declared.form.PlainProgram.{PlainProgram}
 use Rattle.program_reader.specs.declared.fault.RefusedKind.{RefusedKind}

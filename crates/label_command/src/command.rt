@@ -3,7 +3,7 @@ ghost use Rattle.shelf.specs.Causes.{Rose};
 ghost use Rattle.shelf.specs.Contents.{Files};
 ghost use Rattle.text_load.specs.Texts.{HasLoadFault};
 ghost use Rattle.year_labels.specs.Order.{IsAscending};
-ghost use Rattle.label_spread.specs.Derivation.{AreDerivable};
+ghost use Rattle.year_labels.specs.Derivation.{AreDerivable};
 ghost use Rattle.label_command.specs.Answer.{AreLabels, AreLabelsFrom, AreLabelsOf, HasCause, HasTextCause, HasTreeCause, IsAnswered, IsLabelled};
 ghost use Rattle.label_command.specs.Texts.{IsTree, IsTreeOfWords, IsTreeOfExpanded, IsRefusedText, IsRefusedWords, IsRefusedExpansion, line_kind, copy_refusal};
 ghost use Rattle.label_command.specs.Rules.{rule_for};

@@ -6,7 +6,7 @@ use Rattle.year_labels.specs.declared.label.Fact.{Fact}
 use Rattle.year_labels.specs.declared.label.Seed.{Seed}
 use Rattle.year_labels.specs.declared.rule.RuleInst.{RuleInst}
 use Rattle.year_labels.specs.Forms.{IsFit}
-use Rattle.label_spread.specs.Derivation.{IsSeedFact, IsStep, IsDerivation, IsDerivable, AreDerivable, IsClosed, IsLeast, FollowsByOne}
+use Rattle.year_labels.specs.Derivation.{IsSeedFact, IsStep, IsDerivation, IsDerivable, AreDerivable, IsClosed, IsLeast, FollowsByOne}
 use Rattle.label_spread.specs.Steps.{Extends, Adds, Starts, Reacts, Closes}
 use Rattle.label_spread.proofs.Growth.{Extends-refl, Extends-trans, Extends-weaker, Extends-contains, Contains-take}
 use Rattle.label_spread.proofs.Local.{Follows-monotone}
@@ -64,7 +64,7 @@ module _ (seeds : List Seed) (rules : List RuleInst) where
     seeded = λ f h. Extends-contains (FollowsByOne rules) known next f e (r.seeded f h);
   }
 
-  derivation_of : (known : List Fact) → Reached known → IsDerivation seeds rules known
+  pub derivation_of : (known : List Fact) → Reached known → IsDerivation seeds rules known
   derivation_of known r k d lt = r.steps.steps k d (omega arith) lt
 
   fit_of : All (λ (r : RuleInst). IsFit r.form) rules → (rule : RuleInst) → Contains rules rule → IsFit rule.form
@@ -95,29 +95,23 @@ module _ (seeds : List Seed) (rules : List RuleInst) where
       let at : Contains w.0 f = w.2 in
       subst (λ (x : Fact). Contains others x) at.2 (reaches others w.0 fit closed w.1 (at.0 + 1) at.0 f (omega arith) at.1)
 
-  closed_of : (known : List Fact) → Reached known → ((f : Fact) → FollowsByOne rules known f → Contains known f) → IsClosed seeds rules known
+  pub closed_of : (known : List Fact) → Reached known → ((f : Fact) → FollowsByOne rules known f → Contains known f) → IsClosed seeds rules known
   closed_of known r closed = record { seeded = r.seeded; closed = closed }
 
-  pub AreDerivable-reached : (known : List Fact) → All (λ (r : RuleInst). IsFit r.form) rules → Reached known → ((f : Fact) → FollowsByOne rules known f → Contains known f) → AreDerivable seeds rules known
-  AreDerivable-reached known fit r closed = record {
-    sound = λ f h. (known, derivation_of known r, h);
-    complete = λ f w. derivable_in known fit (closed_of known r closed) f w;
+  -- for the facts of a derivation that are closed, in any order
+  pub AreDerivable-alike : (known others : List Fact) → All (λ (r : RuleInst). IsFit r.form) rules → IsDerivation seeds rules known → IsClosed seeds rules known → ((f : Fact) → Contains others f ↔ Contains known f) → AreDerivable seeds rules others
+  AreDerivable-alike known others fit derives closed same = record {
+    sound = λ f h. (known, derives, (same f).0 h);
+    complete = λ f w. (same f).1 (derivable_in known fit closed f w);
   }
 
-  -- for lists with the same facts
-  pub AreDerivable-alike : (facts others : List Fact) → ((f : Fact) → Contains others f ↔ Contains facts f) → AreDerivable seeds rules facts → AreDerivable seeds rules others
-  AreDerivable-alike facts others same a = record {
-    sound = λ f h. a.sound f ((same f).0 h);
-    complete = λ f w. (same f).1 (a.complete f w);
-  }
-
-  pub IsLeast-alike : (known facts : List Fact) → All (λ (r : RuleInst). IsFit r.form) rules → Reached known → ((f : Fact) → FollowsByOne rules known f → Contains known f) → ((f : Fact) → Contains facts f ↔ Contains known f) → IsLeast seeds rules facts
-  IsLeast-alike known facts fit r closed same = record {
+  pub IsLeast-alike : (known others : List Fact) → All (λ (r : RuleInst). IsFit r.form) rules → IsDerivation seeds rules known → IsClosed seeds rules known → ((f : Fact) → Contains others f ↔ Contains known f) → IsLeast seeds rules others
+  IsLeast-alike known others fit derives closed same = record {
     closed = record {
-      seeded = λ f h. (same f).1 (r.seeded f h);
-      closed = λ f h. (same f).1 (closed f (h.0, h.1, Follows-monotone h.0.form (fit_of fit h.0 h.1) facts known f (λ g at. (same g).0 at) h.2));
+      seeded = λ f h. (same f).1 (closed.seeded f h);
+      closed = λ f h. (same f).1 (closed.closed f (h.0, h.1, Follows-monotone h.0.form (fit_of fit h.0 h.1) others known f (λ g at. (same g).0 at) h.2));
     };
-    least = λ others other_closed f h. derivable_in others fit other_closed f (known, derivation_of known r, (same f).0 h);
+    least = λ more more_closed f h. derivable_in more fit more_closed f (known, derives, (same f).0 h);
   }
 
   -- first the facts of the seeds, then what follows from nothing, then all that follows

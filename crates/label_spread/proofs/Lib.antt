@@ -9,3 +9,4 @@ pub mod Marks
 pub mod Whole
 pub mod Blocks
 pub mod Looks
+pub mod Operands

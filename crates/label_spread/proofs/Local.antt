@@ -14,10 +14,10 @@ use Rattle.year_labels.specs.declared.rule.RuleForm.{RuleForm}
 use Rattle.year_labels.specs.declared.rule.RuleForm.TheVariants as forms
 use Rattle.year_labels.specs.Facts.{fact_in}
 use Rattle.year_labels.specs.Roles.{HasRole, HasPackedRole, HasPackedYear, MayBePlain, GivesPacked, Gives, label_of}
-use Rattle.year_labels.specs.declared.rows.Who.{Who}
-use Rattle.year_labels.specs.declared.rows.Who.TheVariants as whos
-use Rattle.year_labels.specs.declared.rows.Test.{Test}
-use Rattle.year_labels.specs.declared.rows.Row.{Row}
+use Rattle.case_tables.specs.declared.row_table.Who.{Who}
+use Rattle.case_tables.specs.declared.row_table.Who.TheVariants as whos
+use Rattle.case_tables.specs.declared.row_table.Test.{Test}
+use Rattle.case_tables.specs.declared.row_table.Row.{Row}
 use Rattle.year_labels.specs.Operands.{Is, Makes, Holds, HoldsIf, Fires, IsByRow, operand}
 use Rattle.year_labels.specs.Forms.{IsFit, IsFitView, IsPassed, IsCopied, HasYearDigit, Follows}
 use Rattle.label_spread.specs.Steps.{IsInSpan, IsInView, IsPassedAs, IsPassedAt, MayFill, IsFilledAt, FollowsAlike, FollowsWhole, Touches}
@@ -128,6 +128,9 @@ HasRole-grows xs ys view power role fit grows h = HasRole-local xs ys view power
 
 pub Gives-monotone : (view : View) (power : ℕ) (role : Role) → IsMonotone (λ xs. Gives xs view power role)
 Gives-monotone view power role xs ys f grows h = Gives-local xs ys view power role f (λ g at _. grows g at) h
+
+pub Makes-monotone : (view : View) (year : Bool) → IsMonotone (λ xs. Makes xs view year)
+Makes-monotone view year xs ys f grows h = Makes-local xs ys view year f (λ g at _. grows g at) h
 
 pub IsPassedAs-monotone : (a b : View) (power : ℕ) (role : Role) → IsFitView a → IsMonotone (IsPassedAs a b power role)
 IsPassedAs-monotone a b power role fit xs ys f grows h =

@@ -14,7 +14,7 @@ use Rattle.year_labels.specs.declared.rule.RuleInst.{RuleInst}
 use Rattle.year_labels.specs.Facts.{fact_in}
 use Rattle.year_labels.specs.Forms.{IsFit, IsCopied, Follows}
 use Rattle.label_spread.specs.declared.slots.Slot.{Slot}
-use Rattle.label_spread.specs.Derivation.{FollowsByOne}
+use Rattle.year_labels.specs.Derivation.{FollowsByOne}
 use Rattle.label_spread.specs.Steps.{Extends, Reacts, ReactsBy, IsPartOf, IsInSpan, IsInView, FollowsAlike, Touches}
 use Rattle.label_spread.specs.Slots.{slot_of, LooksAt, IsIndexOf}
 use Rattle.label_spread.proofs.Growth.{Extends-refl, Extends-trans, Extends-weaker, Extends-contains}

@@ -1,6 +1,8 @@
 -- How a list of facts grows, and what a function that adds facts sees to.
-use Rattle.std.specs.Prelude.{◌≡◌, ◌⊎◌, ◌↔◌, ℕ, ◌<◌, ◌≤◌, List, [], ◌∷◌, ◌++◌, length, take, slice_index_or, Contains}
+use Rattle.std.specs.Prelude.{◌≡◌, ◌⊎◌, ◌↔◌, ℕ, Bool, IsTrue, ◌<◌, ◌≤◌, List, [], ◌∷◌, ◌++◌, length, take, slice_index_or, Contains}
 use Rattle.y2k_base.specs.declared.place.BytePlace.{BytePlace}
+use Rattle.case_tables.specs.declared.row_table.Flags.{Flags}
+use Rattle.case_tables.specs.Rows.{flag}
 use Rattle.y2k_base.specs.declared.place.Span.{Span}
 use Rattle.year_labels.specs.declared.label.Fact.{Fact}
 use Rattle.year_labels.specs.declared.label.Label.{Label}
@@ -14,8 +16,9 @@ use Rattle.year_labels.specs.declared.rule.RuleInst.{RuleInst}
 use Rattle.year_labels.specs.declared.rule.RuleForm.TheVariants as forms
 use Rattle.year_labels.specs.Facts.{place_in}
 use Rattle.year_labels.specs.Roles.{HasRole, Gives}
+use Rattle.year_labels.specs.Operands.{Makes}
 use Rattle.year_labels.specs.Forms.{HasYearDigit, Follows}
-use Rattle.label_spread.specs.Derivation.{FollowsByOne}
+use Rattle.year_labels.specs.Derivation.{FollowsByOne}
 
 abbrev pub HaveSameFacts : List Fact → List Fact → Type 0
 HaveSameFacts xs ys = (f : Fact) → Contains xs f ↔ Contains ys f
@@ -54,6 +57,10 @@ pub record ReactsBy (rules : List RuleInst) (index : ℕ) (fact : Fact) (old new
 pub record Closes (step : List Fact → Fact → Type 0) (old new : List Fact) : Type 0 where
   pub extends : Extends step old new
   pub closed : (f : Fact) → step new f → Contains new f
+
+-- the number is made what the flags say of it
+abbrev pub IsMade : View → Flags → List Fact → Fact → Type 0
+IsMade view flags known f = (year : Bool) × IsTrue (flag flags year) × Makes known view year f
 
 -- the place is a byte of the span
 abbrev pub IsInSpan : Span → BytePlace → Type 0

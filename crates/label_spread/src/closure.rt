@@ -2,7 +2,7 @@ ghost use Rattle.std.specs.Prelude.{◌≡◌, [], IfOk, OnOk, Contains, All};
 ghost use Rattle.year_labels.specs.declared.label.Fact.{Fact as AnyFact};
 ghost use Rattle.year_labels.specs.Order.{IsAscending};
 ghost use Rattle.year_labels.specs.Forms.{IsFit};
-ghost use Rattle.label_spread.specs.Derivation.{AreDerivable, IsLeast, IsSeedFact, FollowsByOne};
+ghost use Rattle.year_labels.specs.Derivation.{AreDerivable, IsLeast, IsDerivation, IsClosed, IsSeedFact, FollowsByOne};
 ghost use Rattle.label_spread.specs.Steps.{Adds, Starts, Reacts, ReactsBy, Closes};
 ghost use Rattle.label_spread.specs.Slots.{IsIndexOf};
 
@@ -12,7 +12,7 @@ use crate::slots::{Slot, index_rules, slots_at};
 use year_labels::{Fact, Labelling, RuleInst, Seed};
 use std::alloc::Global;
 use std::collections::BTreeSet;
-use y2k_base::Memory;
+use y2k_base::{List, Memory};
 
 /// The least labelling that has the facts of the seeds and is closed under the rules.
 pub fn spread(alloc: Global, seeds: &[Seed], rules: &[RuleInst]) -> Result<Labelling, Memory>
@@ -21,13 +21,24 @@ pub fn spread(alloc: Global, seeds: &[Seed], rules: &[RuleInst]) -> Result<Label
     ensures least { IfOk result (IsLeast seeds.now rules.now) }
     ensures ordered { IfOk result IsAscending }
 {
+    let facts = derive(alloc, seeds, rules)?;
+    let labelling = Labelling::new(alloc, facts)?;
+    Ok(labelling)
+}
+
+/// The facts of that labelling in the order in which they were found: each is that of a seed, or follows from
+/// those before it. What follows in few steps stands before what follows in many.
+pub fn derive(alloc: Global, seeds: &[Seed], rules: &[RuleInst]) -> Result<List<Fact>, Memory>
+    requires { All (λ r. IsFit r.form) rules.now }
+    ensures derivation { IfOk result (IsDerivation seeds.now rules.now) }
+    ensures closed { IfOk result (IsClosed seeds.now rules.now) }
+{
     let mut known = Known::new(alloc);
     insert_seeds(seeds, &mut known)?;
     start_all(rules, &mut known)?;
     let slots = index_rules(alloc, rules)?;
     close(alloc, rules, &slots, &mut known)?;
-    let labelling = Labelling::new(alloc, known.into_list())?;
-    Ok(labelling)
+    Ok(known.into_list())
 }
 
 /// Adds the facts of the seeds.

@@ -7,7 +7,8 @@ use crate::bytes::copy_label;
 use crate::known::Known;
 use crate::roles::{fill, give_role, is_in_view, pass_both};
 use crate::sums::fire_rows;
-use year_labels::{Fact, RuleForm, View, add_rows, sub_rows};
+use case_tables::{ADD_ROWS, SUB_ROWS};
+use year_labels::{Fact, RuleForm, View};
 use y2k_base::{BytePlace, Memory};
 
 /// Adds what the rule gives from nothing.
@@ -127,8 +128,7 @@ fn apply_sum(a: &View, b: &View, c: &View, known: &mut Known) -> Result<(), Memo
     requires c { IsFitView c.now }
     ensures { OnOk result (Adds (Follows (forms.Sum a.now b.now c.now)) known.old known.new) }
 {
-    let rows = add_rows();
-    fire_rows(a, b, c, &rows, known)?;
+    fire_rows(a, b, c, &ADD_ROWS, known)?;
     Ok(())
 }
 
@@ -138,7 +138,6 @@ fn apply_difference(a: &View, b: &View, c: &View, known: &mut Known) -> Result<(
     requires c { IsFitView c.now }
     ensures { OnOk result (Adds (Follows (forms.Difference a.now b.now c.now)) known.old known.new) }
 {
-    let rows = sub_rows();
-    fire_rows(a, b, c, &rows, known)?;
+    fire_rows(a, b, c, &SUB_ROWS, known)?;
     Ok(())
 }

@@ -12,4 +12,4 @@ mod sums;
 #[cfg(test)]
 mod tests;
 
-pub use closure::spread;
+pub use closure::{derive, spread};

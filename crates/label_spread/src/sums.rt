@@ -1,107 +1,60 @@
 ghost use Rattle.std.specs.Prelude.{◌≡◌, ◌⊎◌, ◌↔◌, true, false, IsTrue, OnOk};
+ghost use Rattle.case_tables.specs.declared.row_table.Test.{Test as AnyTest};
+ghost use Rattle.case_tables.specs.Rows.{Holds as IsSeen};
 ghost use Rattle.year_labels.specs.Forms.{IsFitView, IsByRows};
-ghost use Rattle.year_labels.specs.Operands.{Is, Makes, Holds, HoldsIf, Fires, IsByRow, operand as the_operand};
-ghost use Rattle.label_spread.specs.Steps.{Adds};
+ghost use Rattle.year_labels.specs.Operands.{Is, Makes, Holds};
+ghost use Rattle.label_spread.specs.Steps.{Adds, IsMade};
 
 use crate::known::Known;
 use crate::roles::{give_role, has_role};
-use year_labels::{Role, Row, Test, View, Who};
+use case_tables::{Flags, Known as Seen, RowTable};
+use year_labels::{Role, View};
 use y2k_base::Memory;
 
-/// Adds what follows by each of the rows.
-pub(crate) fn fire_rows(
+/// Adds what the rows say of the operands.
+pub(crate) fn fire_rows<const N: usize>(
     a: &View,
     b: &View,
     c: &View,
-    rows: &[Row],
+    table: &RowTable<N>,
     known: &mut Known,
 ) -> Result<(), Memory>
     requires a { IsFitView a.now }
     requires b { IsFitView b.now }
     requires c { IsFitView c.now }
-    ensures { OnOk result (Adds (IsByRows rows.now a.now b.now c.now) known.old known.new) }
+    ensures { OnOk result (Adds (IsByRows table.now.rows a.now b.now c.now) known.old known.new) }
 {
-    for i in 0..rows.len() {
-        let row = rows[i];
-        fire_row(a, b, c, row, known)?;
-    }
+    let seen = seen_of(known, a, b, c);
+    let given = table.fires(&seen);
+    make(a, given.a, known)?;
+    make(b, given.b, known)?;
+    make(c, given.c, known)?;
     Ok(())
 }
 
-fn fire_row(a: &View, b: &View, c: &View, row: Row, known: &mut Known) -> Result<(), Memory>
+/// What the known facts say of the operands.
+fn seen_of(known: &Known, a: &View, b: &View, c: &View) -> Seen
     requires a { IsFitView a.now }
     requires b { IsFitView b.now }
     requires c { IsFitView c.now }
-    ensures { OnOk result (Adds (IsByRow a.now b.now c.now row) known.old known.new) }
+    ensures { (test : AnyTest) → IsSeen result test ↔ Holds a.now b.now c.now test known.now }
 {
-    if fires(known, a, b, c, row) {
-        let to = operand(a, b, c, row.gives.who);
-        make(to, row.gives.year, known)?;
-        Ok(())
-    } else {
-        Ok(())
+    Seen {
+        a: flags_of(known, a),
+        b: flags_of(known, b),
+        c: flags_of(known, c),
     }
 }
 
-/// Whether the tests of the row hold.
-fn fires(known: &Known, a: &View, b: &View, c: &View, row: Row) -> bool
-    requires a { IsFitView a.now }
-    requires b { IsFitView b.now }
-    requires c { IsFitView c.now }
-    ensures { IsTrue result ↔ Fires a.now b.now c.now row known.now }
-{
-    if holds(known, a, b, c, row.if1) {
-        holds_if(known, a, b, c, row.if2)
-    } else {
-        false
-    }
-}
-
-fn holds(known: &Known, a: &View, b: &View, c: &View, test: Test) -> bool
-    requires a { IsFitView a.now }
-    requires b { IsFitView b.now }
-    requires c { IsFitView c.now }
-    ensures { IsTrue result ↔ Holds a.now b.now c.now test known.now }
-{
-    let of = operand(a, b, c, test.who);
-    is_such(known, of, test.year)
-}
-
-fn holds_if(known: &Known, a: &View, b: &View, c: &View, test: Option<Test>) -> bool
-    requires a { IsFitView a.now }
-    requires b { IsFitView b.now }
-    requires c { IsFitView c.now }
-    ensures { IsTrue result ↔ HoldsIf a.now b.now c.now test known.now }
-{
-    match test {
-        Some(test) => holds(known, a, b, c, test),
-        None => true,
-    }
-}
-
-fn operand<'a>(a: &'a View, b: &'a View, c: &'a View, who: Who) -> &'a View
-    requires a { IsFitView a.now }
-    requires b { IsFitView b.now }
-    requires c { IsFitView c.now }
-    ensures fit { IsFitView result.now }
-    ensures value { result.now ≡ the_operand a.now b.now c.now who }
-{
-    match who {
-        Who::A => a,
-        Who::B => b,
-        Who::C => c,
-    }
-}
-
-/// Whether the number is a year or, if that is asked, plain.
-fn is_such(known: &Known, view: &View, year: bool) -> bool
+/// Whether the number is a year, and whether it is plain.
+fn flags_of(known: &Known, view: &View) -> Flags
     requires { IsFitView view.now }
-    ensures { IsTrue result ↔ Is known.now view.now year }
+    ensures year { IsTrue result.year ↔ Is known.now view.now true }
+    ensures plain { IsTrue result.plain ↔ Is known.now view.now false }
 {
-    if year {
-        is_year(known, view)
-    } else {
-        is_plain(known, view)
+    Flags {
+        year: is_year(known, view),
+        plain: is_plain(known, view),
     }
 }
 
@@ -119,16 +72,36 @@ fn is_plain(known: &Known, view: &View) -> bool
     has_role(known, view, 1, Role::Plain) || has_role(known, view, 0, Role::Plain)
 }
 
-/// Makes the number a year or, if that is asked, plain.
-fn make(view: &View, year: bool, known: &mut Known) -> Result<(), Memory>
+/// Makes the number what the flags say.
+fn make(view: &View, flags: Flags, known: &mut Known) -> Result<(), Memory>
     requires { IsFitView view.now }
-    ensures { OnOk result (Adds (λ xs. Makes xs view.now year) known.old known.new) }
+    ensures { OnOk result (Adds (IsMade view.now flags) known.old known.new) }
 {
-    if year {
+    make_year_if(flags.year, view, known)?;
+    make_plain_if(flags.plain, view, known)?;
+    Ok(())
+}
+
+fn make_year_if(wanted: bool, view: &View, known: &mut Known) -> Result<(), Memory>
+    requires { IsFitView view.now }
+    ensures { OnOk result (Adds (λ xs f. IsTrue wanted × Makes xs view.now true f) known.old known.new) }
+{
+    if wanted {
         make_year(view, known)?;
         Ok(())
     } else {
+        Ok(())
+    }
+}
+
+fn make_plain_if(wanted: bool, view: &View, known: &mut Known) -> Result<(), Memory>
+    requires { IsFitView view.now }
+    ensures { OnOk result (Adds (λ xs f. IsTrue wanted × Makes xs view.now false f) known.old known.new) }
+{
+    if wanted {
         make_plain(view, known)?;
+        Ok(())
+    } else {
         Ok(())
     }
 }

@@ -1,5 +1,5 @@
 -- A list that ascends and no neighbours of which are of one place has no two facts of one place.
-use Rattle.std.proofs.Common.{◌≡◌, ◌⊎◌, ◌↔◌, inl, inr, arith, ℕ, ◌+◌, ◌-◌, ◌<◌, ◌≤◌, List, length, get_or, refl, sym, ap, ◌∙◌, subst, Contains, IsTrue, true, false}
+use Rattle.std.proofs.Common.{◌≡◌, ◌⊎◌, inl, inr, arith, ℕ, ◌+◌, ◌-◌, ◌<◌, ◌≤◌, List, length, get_or, refl, sym, ap, ◌∙◌, subst, Contains}
 use Rattle.std.specs.declared.cmp.Ordering.{Ordering}
 use Rattle.std.specs.declared.cmp.Ordering.TheVariants.{Less, Equal, Greater}
 use Rattle.std.specs.Ordering.{nat_cmp, ordering_then, MatchOrdering}
@@ -11,11 +11,11 @@ use Rattle.std.proofs.lemmas.List.Elements.{Contains-get_or}
 use Rattle.y2k_base.specs.declared.place.BytePlace.{BytePlace}
 use Rattle.year_labels.specs.declared.label.Fact.{Fact}
 use Rattle.year_labels.specs.Facts.{IsClean, fact_of}
-use Rattle.year_labels.specs.Order.{fact_cmp, place_cmp, label_cmp, IsAscending}
+use Rattle.year_labels.specs.Order.{fact_cmp, label_cmp, IsAscending}
 use Rattle.year_labels.proofs.Total.{less_before, fact_total}
 
 -- not after it
-abbrev IsUpTo : BytePlace → BytePlace → Type 0
+abbrev pub IsUpTo : BytePlace → BytePlace → Type 0
 IsUpTo p q = (p.area.0 < q.area.0) ⊎ ((p.area.0 ≡ q.area.0) × (p.offset ≤ q.offset))
 
 up_to_by : (p q : BytePlace) (r s l : Ordering) → MatchOrdering r (p.area.0 < q.area.0) (p.area.0 ≡ q.area.0) (q.area.0 < p.area.0) → MatchOrdering s (p.offset < q.offset) (p.offset ≡ q.offset) (q.offset < p.offset) → ordering_then (ordering_then r s) l ≡ Less → IsUpTo p q
@@ -25,7 +25,7 @@ up_to_by p q Equal Equal l m n e = inr (m, omega (arith, n))
 up_to_by p q Equal Greater l m n e = absurd (let f : Greater ≡ Less = e in cc)
 up_to_by p q Greater s l m n e = absurd (let f : Greater ≡ Less = e in cc)
 
-up_to : (f g : Fact) → fact_cmp f g ≡ Less → IsUpTo f.place g.place
+pub up_to : (f g : Fact) → fact_cmp f g ≡ Less → IsUpTo f.place g.place
 up_to f g e =
     up_to_by f.place g.place (nat_cmp f.place.area.0 g.place.area.0) (nat_cmp f.place.offset g.place.offset) (label_cmp f.label g.label)
     (ranked f.place.area.0 g.place.area.0 _ refl) (ranked f.place.offset g.place.offset _ refl) e

@@ -1,3 +1,4 @@
 pub mod Total
 pub mod Keys
 pub mod Clean
+pub mod Stretches

@@ -1,5 +1,5 @@
 -- The order of facts is total, and only equal facts tie.
-use Rattle.std.proofs.Common.{◌≡◌, ◌⊎◌, inl, inr, arith, ℕ, zero, suc, ◌+◌, ◌<◌, ◌≤◌, List, [], ◌∷◌, length, get_or, refl, sym, ap, ◌∙◌, subst, Contains, IsTrue, true, false, Bool}
+use Rattle.std.proofs.Common.{◌≡◌, inl, inr, arith, ℕ, zero, suc, ◌<◌, ◌≤◌, List, [], ◌∷◌, length, get_or, refl, sym, ap, ◌∙◌, subst, Contains, true, false}
 use Rattle.std.specs.Cmp.{IsTotalOrder}
 use Rattle.std.specs.declared.cmp.Ordering.{Ordering}
 use Rattle.std.specs.declared.cmp.Ordering.TheVariants.{Less, Equal, Greater}
@@ -70,7 +70,7 @@ number_total = then_total (on_total kind nat_cmp_total) (then_total (on_total di
 label_total : IsTotalOrder label_cmp
 label_total = subst (λ (r : Label → Label → Ordering). IsTotalOrder r) (λ i a b. same_order a b i) number_total
 
-place_total : IsTotalOrder place_cmp
+pub place_total : IsTotalOrder place_cmp
 place_total = then_total (on_total (λ (p : BytePlace). p.area.0) nat_cmp_total) (on_total (λ (p : BytePlace). p.offset) nat_cmp_total)
 
 pub fact_total : IsTotalOrder fact_cmp

@@ -5,14 +5,14 @@ use Rattle.year_labels.specs.declared.label.Fact.{Fact}
 use Rattle.year_labels.specs.declared.label.Label.{Label}
 use Rattle.year_labels.specs.declared.label.Role.{Role}
 use Rattle.year_labels.specs.declared.label.Role.TheVariants as roles
-use Rattle.year_labels.specs.declared.rows.Row.{Row}
+use Rattle.case_tables.specs.declared.row_table.Row.{Row}
 use Rattle.year_labels.specs.declared.rule.View.{View}
 use Rattle.year_labels.specs.declared.rule.View.TheVariants as views
 use Rattle.year_labels.specs.declared.rule.RuleForm.{RuleForm}
 use Rattle.year_labels.specs.declared.rule.RuleForm.TheVariants as forms
 use Rattle.year_labels.specs.Facts.{fact_in}
 use Rattle.year_labels.specs.Roles.{HasRole, Gives}
-use Rattle.year_labels.specs.Rows.{add_rows, sub_rows}
+use Rattle.case_tables.specs.Rows.{add_rows, sub_rows}
 use Rattle.year_labels.specs.Operands.{IsByRow}
 
 -- a byte of the one span bears the label, and the fact is that the same byte of the other does

@@ -1,6 +1,7 @@
 pub mod Order
 pub mod Facts
 pub mod Roles
-pub mod Rows
 pub mod Operands
 pub mod Forms
+pub mod Derivation
+pub mod Stretches

@@ -1,11 +1,11 @@
 -- The operands of a sum or a difference: numbers of two digits that are a year or plain, and what a row says of them.
-use Rattle.std.specs.Prelude.{◌⊎◌, ℕ, Bool, true, false, List, Option, Some, None}
+use Rattle.std.specs.Prelude.{◌⊎◌, Bool, true, false, List, Option, Some, None}
 use Rattle.year_labels.specs.declared.label.Fact.{Fact}
 use Rattle.year_labels.specs.declared.label.Role.TheVariants as roles
-use Rattle.year_labels.specs.declared.rows.Who.{Who}
-use Rattle.year_labels.specs.declared.rows.Who.TheVariants.{A, B, C}
-use Rattle.year_labels.specs.declared.rows.Test.{Test}
-use Rattle.year_labels.specs.declared.rows.Row.{Row}
+use Rattle.case_tables.specs.declared.row_table.Who.{Who}
+use Rattle.case_tables.specs.declared.row_table.Who.TheVariants.{A, B, C}
+use Rattle.case_tables.specs.declared.row_table.Test.{Test}
+use Rattle.case_tables.specs.declared.row_table.Row.{Row}
 use Rattle.year_labels.specs.declared.rule.View.{View}
 use Rattle.year_labels.specs.Roles.{HasRole, Gives}
 

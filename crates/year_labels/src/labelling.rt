@@ -1,9 +1,12 @@
-ghost use Rattle.std.specs.Prelude.{◌≡◌, ◌↔◌, IsTrue, IfOk, Contains, length, slice_get};
+ghost use Rattle.std.specs.Prelude.{◌≡◌, ◌↔◌, IsTrue, IfOk, Contains, length, slice_get, List as Items, Some, None, MatchOption};
+ghost use Rattle.year_labels.specs.declared.stretch.Stretch.{Stretch as AnyStretch};
+ghost use Rattle.year_labels.specs.Stretches.{AreStretchesOf};
 ghost use Rattle.year_labels.specs.Order.{IsAscending};
 ghost use Rattle.year_labels.specs.Facts.{IsClean, fact_of};
 
 use crate::order::{insert_key_of, is_there, keys_of};
-use crate::{Fact, Label};
+use crate::stretch::stretches_of;
+use crate::{Fact, Label, Stretch};
 use std::alloc::Global;
 use std::collections::BTreeSet;
 use std::marker::Model;
@@ -14,6 +17,7 @@ use y2k_base::{BytePlace, List, Memory};
 #[derive(Debug, Drop)]
 pub struct Labelling {
     facts: Vec<Fact>,
+    stretches: Vec<Stretch>,
 }
 
 impl Model for Labelling {
@@ -23,10 +27,11 @@ impl Model for Labelling {
     ghost Value = { List Fact };
 
     ghost use Rattle.year_labels.specs.Order.{IsAscending};
+    ghost use Rattle.year_labels.specs.Stretches.{AreStretchesOf};
 
     ghost view = { λ a. a.facts.items };
 
-    ghost invariant = { λ a. IsAscending a.facts.items };
+    ghost invariant = { λ a. IsAscending a.facts.items × AreStretchesOf a.facts.items a.stretches.items };
 }
 
 impl Labelling {
@@ -42,7 +47,8 @@ impl Labelling {
             insert_key_of(&mut sorted, fact)?;
         }
         let facts = keys_of(alloc, sorted)?;
-        Ok(Labelling { facts })
+        let stretches = stretches_of(alloc, &facts)?;
+        Ok(Labelling { facts, stretches })
     }
 
     /// Whether the byte bears the label.
@@ -65,6 +71,13 @@ impl Labelling {
         ensures { result ≡ length self.now }
     {
         self.facts.len()
+    }
+
+    /// The stretch of that index, in order of places, or `None` past the end.
+    pub fn stretch(&self, index: usize) -> Option<&Stretch>
+        ensures { (stretches : Items AnyStretch) × AreStretchesOf self.now stretches × MatchOption result (slice_get stretches index ≡ None) (λ found. slice_get stretches index ≡ Some found.now) }
+    {
+        self.stretches.get(index)
     }
 
     /// Whether no byte bears unlike labels.

@@ -5,13 +5,13 @@
 mod label;
 mod labelling;
 mod order;
-mod rows;
 mod rule;
+mod stretch;
 #[cfg(test)]
 mod tests;
 mod twins;
 
 pub use label::{Fact, Label, Role, Seed, unlike};
 pub use labelling::Labelling;
-pub use rows::{Row, Test, Who, add_rows, sub_rows};
 pub use rule::{Rule, RuleForm, RuleInst, View};
+pub use stretch::Stretch;

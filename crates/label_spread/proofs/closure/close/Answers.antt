@@ -1,5 +1,5 @@
 use Rattle.std.proofs.Common.{sym}
-use Rattle.label_spread.specs.Derivation.{FollowsByOne}
+use Rattle.year_labels.specs.Derivation.{FollowsByOne}
 use Rattle.label_spread.proofs.Least.{Taken-none, Taken-more, Taken-all, ended}
 use Rattle.label_spread.proofs.closure.close.Goals as goal
 

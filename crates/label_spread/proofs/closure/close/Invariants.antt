@@ -1,5 +1,5 @@
 use Rattle.std.proofs.Common.{◌-◌, ◌^◌}
-use Rattle.label_spread.specs.Derivation.{FollowsByOne}
+use Rattle.year_labels.specs.Derivation.{FollowsByOne}
 use Rattle.label_spread.proofs.Least.{Taken}
 use Rattle.label_spread.proofs.closure.close.Given as goal
 

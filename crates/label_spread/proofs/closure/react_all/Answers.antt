@@ -1,5 +1,5 @@
 use Rattle.std.proofs.Common.{arith}
-use Rattle.label_spread.specs.Derivation.{FollowsByOne}
+use Rattle.year_labels.specs.Derivation.{FollowsByOne}
 use Rattle.label_spread.proofs.Growth.{Extends-contains}
 use Rattle.label_spread.proofs.Looks.{ReactsAmong-none, ReactsAmong-more, ReactsAmong-all}
 use Rattle.label_spread.proofs.closure.react_all.Goals as goal

@@ -1,6 +1,6 @@
 use Rattle.std.proofs.Common.{◌≡◌, ◌-◌, arith, refl, true, false}
 use Rattle.std.proofs.lemmas.List.{get_or_default}
-use Rattle.year_labels.proofs.Clean.{AreApart, clean_all, unclean}
+use Rattle.year_labels.proofs.Clean.{clean_all, unclean}
 use Rattle.year_labels.proofs.labelling.have_places_of_their_own.Goals as goal
 
 pub returns-then-are_of_one_place : goal.returns-then-are_of_one_place

@@ -1,4 +1,4 @@
-use Rattle.std.proofs.Common.{◌≡◌, ◌↔◌, ◌∙◌, subst, List, IsTrue}
+use Rattle.std.proofs.Common.{◌↔◌, ◌∙◌, subst, List, IsTrue}
 use Rattle.year_labels.specs.declared.label.Fact.{Fact}
 use Rattle.year_labels.specs.Facts.{IsClean}
 use Rattle.year_labels.proofs.labelling.Labelling.clean.Goals as goal

@@ -1,4 +1,4 @@
-use Rattle.std.proofs.Common.{◌≡◌, ◌∙◌, sym, ap, subst, arith, List, take, Contains}
+use Rattle.std.proofs.Common.{◌≡◌, ◌∙◌, sym, subst, arith, List, take, Contains}
 use Rattle.std.proofs.lemmas.List.{take_all, get_or_default}
 use Rattle.year_labels.specs.declared.label.Fact.{Fact}
 use Rattle.year_labels.proofs.Keys.{AreKeysOf-more}
