@@ -1,5 +1,6 @@
 ghost use Rattle.std.specs.Prelude.{◌≡◌};
-ghost use Rattle.case_tables.specs.Table.{word_of, role_in};
+ghost use Rattle.std.specs.Str.{bytes_eq};
+ghost use Rattle.case_tables.specs.Table.{word_of, role_in, before_space};
 
 /// What a word of the language is to a reader of names.
 #[derive(Clone, Copy, Debug, PartialEq, Eq)]
@@ -25,6 +26,47 @@ pub struct WordTable<const N: usize> {
     pub rows: [WordRow; N],
 }
 
+/// Whether two texts are the same. Most others are told apart by their first bytes.
+pub fn same_text(mut left: &[u8], mut right: &[u8]) -> bool
+    ensures { result ≡ bytes_eq left.entry.now right.entry.now }
+{
+    while let [first, more @ ..] = left {
+        match right {
+            [] => return false,
+            [other, rest @ ..] => {
+                if *first != *other {
+                    return false;
+                }
+                left = more;
+                right = rest;
+            }
+        }
+    }
+    right.is_empty()
+}
+
+/// Whether a text that is filled up with spaces is this word.
+fn is_filled(mut text: &[u8], mut word: &[u8]) -> bool
+    ensures { result ≡ bytes_eq (before_space text.entry.now) word.entry.now }
+{
+    while let [first, more @ ..] = text {
+        if *first == b' ' {
+            return word.is_empty();
+        }
+        match word {
+            [] => return false,
+            [other, rest @ ..] => {
+                if *first != *other {
+                    return false;
+                }
+                text = more;
+                word = rest;
+            }
+        }
+    }
+    word.is_empty()
+}
+
 impl WordRow {
     /// The word, without the spaces after it.
     pub fn word(&self) -> &[u8]
@@ -45,7 +87,7 @@ impl<const N: usize> WordTable<N> {
         ensures { result ≡ role_in word.now self.now.rows }
     {
         for row in &self.rows {
-            if row.word() == word {
+            if is_filled(&row.text, word) {
                 return Some(row.role);
             }
         }

@@ -22,4 +22,4 @@ pub use kind::{CondNames, Kind, kinds_of};
 pub use read::{read_condition, read_expr};
 pub use symbol::{Symbol, same_symbol};
 pub use table::value_of;
-pub use text::{Found, Reader};
+pub use text::{Found, Reader, copied};

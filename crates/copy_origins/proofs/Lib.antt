@@ -4,4 +4,5 @@ pub mod Pieces
 pub mod Runs
 pub mod Search
 pub mod Sides
+pub mod SignLaws
 pub mod Signs

@@ -3,7 +3,7 @@ ghost use Rattle.copy_origins.specs.Keys as keys;
 ghost use Rattle.copy_origins.specs.Keys.{IsPoint};
 ghost use Rattle.copy_origins.specs.Expansion as spec;
 
-use crate::sign::{Sign, is};
+use crate::sign::is_copy;
 use std::alloc::Global;
 use std::convert::From;
 use y2k_base::{Bytes, List, Memory, Origin, Twin, Word};
@@ -182,7 +182,7 @@ pub fn holds_copy(words: &[Word]) -> bool
 {
     let mut rest = words;
     while let [word, more @ ..] = rest {
-        if is(Sign::Copy, word) {
+        if is_copy(word) {
             return true;
         }
         rest = more;

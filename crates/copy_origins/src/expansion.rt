@@ -1,13 +1,14 @@
 ghost use Rattle.std.specs.Prelude.{◌≡◌, [], ◌∷◌, ◌++◌, true, IfOk, IfErr};
 ghost use Rattle.copy_origins.specs.Signs.{is};
+ghost use Rattle.copy_origins.specs.declared.sign.Sign.TheVariants as Sign;
 ghost use Rattle.copy_origins.specs.Expansion as spec;
 
 use crate::books::{Book, Books, CopyFault, Expanded, are_in_order, book_with, holds_copy};
 use crate::replacing::replace;
-use crate::sign::{Sign, is};
+use crate::sign::is_copy;
 use crate::statement::statement;
 use std::alloc::Global;
-use y2k_base::{List, Origin, Twin, Word};
+use y2k_base::{List, Memory, Origin, Word};
 
 /// The words with each COPY statement, its period included, replaced by its book's words.
 ///
@@ -49,7 +50,7 @@ fn piece<'a>(
     ensures ok { IfOk result (λ rest. spec.IsStep (word.now ∷ words.now) books.now out.old out.new rest.now) }
     ensures err { IfErr result (spec.HasCopyFault (word.now ∷ words.now) books.now) }
 {
-    if is(Sign::Copy, word) {
+    if is_copy(word) {
         match copy_piece(alloc, word, words, books, ordered, out) {
             Err(fault) => Err(fault),
             Ok(rest) => Ok(rest),
@@ -72,13 +73,26 @@ fn plain_piece<'a>(
     ensures out { IfOk result (λ rest. out.new ≡ out.old ++ word.now ∷ []) }
     ensures err { IfErr result (λ e. e ≡ CopyFault.Memory) }
 {
-    match word.twin(alloc) {
+    match copy_of(alloc, word) {
         Err(_) => Err(CopyFault::Memory),
         Ok(copy) => match out.push(copy) {
             Err(_) => Err(CopyFault::Memory),
             Ok(()) => Ok(words),
         },
     }
+}
+
+/// The word again, its text taken over at once.
+fn copy_of(alloc: Global, word: &Word) -> Result<Word, Memory>
+    ensures { IfOk result (λ copy. copy ≡ word.now) }
+{
+    let mut text = List::new(alloc);
+    text.append(word.text.items())?;
+    Ok(Word {
+        text,
+        kind: word.kind,
+        origin: word.origin,
+    })
 }
 
 /// Puts what the statement at COPY gives at the end of `out`, and gives the words after it.

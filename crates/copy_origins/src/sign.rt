@@ -1,7 +1,8 @@
 ghost use Rattle.std.specs.Prelude.{◌≡◌};
 ghost use Rattle.copy_origins.specs.Signs as spec;
+ghost use Rattle.copy_origins.specs.declared.sign.Sign.TheVariants as Sign;
 
-use case_tables::role_of;
+use case_tables::{role_of, same_text};
 use y2k_base::{Word, WordKind};
 
 /// What a word is to a COPY statement.
@@ -73,4 +74,18 @@ pub fn is(sign: Sign, word: &Word) -> bool
     ensures { result ≡ spec.is sign word.now }
 {
     sign_of(word) == sign
+}
+
+/// Whether a word is COPY. Most words are told apart by their first bytes, and none is looked up.
+#[tactic(auto, using(crate::proofs::SignLaws::name_is_copy, crate::proofs::SignLaws::mark_is_copy, crate::proofs::SignLaws::other_is_copy, crate::proofs::SignLaws::literal_is_copy), unfolding(crate::specs::Signs::is, crate::specs::Signs::sign_of))]
+pub fn is_copy(word: &Word) -> bool
+    ensures { result ≡ spec.is Sign.Copy word.now }
+{
+    match word.kind {
+        WordKind::Name => same_text(word.text.items(), b"COPY"),
+        WordKind::Number => false,
+        WordKind::Literal => false,
+        WordKind::Picture => false,
+        WordKind::Mark => false,
+    }
 }
