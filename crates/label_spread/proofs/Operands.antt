@@ -1,5 +1,5 @@
 -- What flags say of operands, and what is made of them.
-use Rattle.std.proofs.Common.{◌≡◌, ◌⊎◌, ◌↔◌, inl, inr, Bool, true, false, IsTrue, List, Option, Some, None, refl, sym, subst, Contains}
+use Rattle.std.proofs.Common.{◌⊎◌, ◌↔◌, inl, inr, Bool, true, false, IsTrue, List, Option, Some, None, refl, sym, subst, Contains}
 use Rattle.case_tables.specs.declared.row_table.Flags.{Flags}
 use Rattle.case_tables.specs.declared.row_table.Known.{Known}
 use Rattle.case_tables.specs.declared.row_table.Row.{Row}
@@ -10,7 +10,7 @@ use Rattle.case_tables.specs.Rows as tables
 use Rattle.year_labels.specs.declared.label.Fact.{Fact}
 use Rattle.year_labels.specs.declared.rule.View.{View}
 use Rattle.year_labels.specs.Forms.{IsFitView, IsByRows}
-use Rattle.year_labels.specs.Operands.{Is, Makes, Holds, HoldsIf, Fires, operand}
+use Rattle.year_labels.specs.Operands.{Is, Makes, Holds, HoldsIf, operand}
 use Rattle.label_spread.specs.Steps.{Adds, IsMade}
 use Rattle.label_spread.proofs.Growth.{IsMonotone, Adds-alike, Adds-both}
 use Rattle.label_spread.proofs.Local.{Fires-grows, Makes-monotone}
@@ -41,10 +41,10 @@ Adds-made view flags old mid new year plain =
     let Y : List Fact → Fact → Type 0 = λ xs f. IsTrue flags.year × Makes xs view true f in
     let P : List Fact → Fact → Type 0 = λ xs f. IsTrue flags.plain × Makes xs view false f in
     let parted : (xs : List Fact) (f : Fact) (is_year : Bool) → IsTrue (tables.flag flags is_year) → Makes xs view is_year f → Y xs f ⊎ P xs f =
-        λ xs f is_year. elim is_year as (λ (v : Bool). IsTrue (tables.flag flags v) → Makes xs view v f → Y xs f ⊎ P xs f) [
-          | true ↦ λ t m. inl (t, m)
-          | false ↦ λ t m. inr (t, m)
-        ] in
+    λ xs f is_year. elim is_year as (λ (v : Bool). IsTrue (tables.flag flags v) → Makes xs view v f → Y xs f ⊎ P xs f) [
+      | true ↦ λ t m. inl (t, m)
+      | false ↦ λ t m. inr (t, m)
+    ] in
     Adds-alike (λ xs f. Y xs f ⊎ P xs f) (IsMade view flags) old new
     (λ xs f known h. elim h [ inl y ↦ (true, y.0, y.1) | inr p ↦ (false, p.0, p.1) ])
     (λ f h. parted old f h.0 h.1 h.2)
@@ -69,8 +69,10 @@ module _ (rows : List Row) (a b c : View) (old : List Fact) (seen given : Known)
       let w : tables.IsGiven rows seen test = (gives test).0 h in (
         w.0,
         w.1,
-        Fires-grows old xs a b c w.0 fit grows ((sees w.0.if1).0 w.2.0, there_if w.0.if2 w.2.1),
-        subst (λ (t : Test). Makes xs (operand a b c t.who) t.year f) (sym w.3) makes,
+        (
+          Fires-grows old xs a b c w.0 fit grows ((sees w.0.if1).0 w.2.0, there_if w.0.if2 w.2.1),
+          subst (λ (t : Test). Makes xs (operand a b c t.who) t.year f) (sym w.3) makes,
+        ),
       )
 
   made_by : (f : Fact) (who : Who) (year : Bool) → IsTrue (tables.flag (tables.flags_of given who) year) → Makes old (operand a b c who) year f

@@ -5,11 +5,11 @@ ghost use Rattle.year_labels.specs.Roles.{HoldsPower};
 ghost use Rattle.label_spread.specs.Steps.{Adds, Reacts, IsInSpan};
 
 use crate::known::Known;
-use year_labels::{Fact, Label};
 use y2k_base::{BytePlace, Memory, Span};
+use year_labels::{Fact, Label};
 
 /// Which byte of the span the place is.
-pub(crate) fn index_in(span: Span, place: BytePlace) -> Option<u32>
+pub fn index_in(span: Span, place: BytePlace) -> Option<u32>
     ensures found { IfSome result (λ i. (i < span.length) × (place ≡ place_in span i)) }
     ensures none { IfNone result (IsInSpan span place → ⊥) }
 {
@@ -45,7 +45,7 @@ pub(crate) fn place_at(span: Span, index: u32) -> BytePlace
     }
 }
 
-pub(crate) fn fact_at(span: Span, index: u32, label: Label) -> Fact
+pub fn fact_at(span: Span, index: u32, label: Label) -> Fact
     requires placed { IsPlaced span }
     requires within { index < span.length }
     ensures { result ≡ fact_in span index label }
@@ -166,7 +166,7 @@ fn byte_bears(
     }
 }
 
-fn holds_power(powers: &[Option<u8>], index: usize, power: u8) -> bool
+pub fn holds_power(powers: &[Option<u8>], index: usize, power: u8) -> bool
     ensures { IsTrue result ↔ HoldsPower powers.now index power }
 {
     match power_at(powers, index) {

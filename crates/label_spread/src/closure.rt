@@ -9,10 +9,10 @@ ghost use Rattle.label_spread.specs.Slots.{IsIndexOf};
 use crate::forms::{react, start};
 use crate::known::Known;
 use crate::slots::{Slot, index_rules, slots_at};
-use year_labels::{Fact, Labelling, RuleInst, Seed};
 use std::alloc::Global;
 use std::collections::BTreeSet;
 use y2k_base::{List, Memory};
+use year_labels::{Fact, Labelling, RuleInst, Seed};
 
 /// The least labelling that has the facts of the seeds and is closed under the rules.
 pub fn spread(alloc: Global, seeds: &[Seed], rules: &[RuleInst]) -> Result<Labelling, Memory>

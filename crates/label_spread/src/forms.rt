@@ -8,8 +8,8 @@ use crate::known::Known;
 use crate::roles::{fill, give_role, is_in_view, pass_both};
 use crate::sums::fire_rows;
 use case_tables::{ADD_ROWS, SUB_ROWS};
-use year_labels::{Fact, RuleForm, View};
 use y2k_base::{BytePlace, Memory};
+use year_labels::{Fact, RuleForm, View};
 
 /// Adds what the rule gives from nothing.
 pub(crate) fn start(form: &RuleForm, known: &mut Known) -> Result<(), Memory>

@@ -3,11 +3,11 @@ ghost use Rattle.std.specs.BTreeSet.{insert_key, contains_by};
 ghost use Rattle.year_labels.specs.Order.{fact_cmp};
 ghost use Rattle.label_spread.specs.Steps.{Adds};
 
-use year_labels::Fact;
 use std::alloc::{AllocError, Global};
 use std::collections::BTreeSet;
 use std::marker::Model;
 use y2k_base::{List, Memory};
+use year_labels::Fact;
 
 /// The facts found so far, each once, in the order in which they were found, with an index of them.
 #[derive(Drop)]

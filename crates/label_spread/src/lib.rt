@@ -12,4 +12,6 @@ mod sums;
 #[cfg(test)]
 mod tests;
 
+pub use bytes::{fact_at, holds_power, index_in};
 pub use closure::{derive, spread};
+pub use roles::{label_for, power_limit};

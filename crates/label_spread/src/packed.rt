@@ -7,8 +7,8 @@ ghost use Rattle.label_spread.specs.Steps.{Adds, label_on};
 
 use crate::bytes::{fact_at, insert_at};
 use crate::known::Known;
-use year_labels::{Label, Role};
 use y2k_base::{Memory, Span};
+use year_labels::{Label, Role};
 
 /// The label of the byte of that index of a number whose first byte bears the label.
 fn label_for(label: Label, index: u32) -> Label

@@ -11,10 +11,10 @@ ghost use Rattle.label_spread.specs.Steps.{Adds, IsPassedAs, IsPassedAt, IsFille
 use crate::bytes::{any_byte_bears, bytes_limit, is_in_span, label_bytes};
 use crate::known::Known;
 use crate::packed::{give_packed, has_packed_role};
-use year_labels::{Label, Role, View};
 use y2k_base::{BytePlace, Memory};
+use year_labels::{Label, Role, View};
 
-fn label_for(role: Role) -> Label
+pub fn label_for(role: Role) -> Label
     ensures { result ≡ label_of role }
 {
     match role {
@@ -59,7 +59,7 @@ pub(crate) fn give_role(view: &View, power: u8, role: Role, known: &mut Known) -
 }
 
 /// A power above those of all digits of the view.
-fn power_limit(view: &View) -> u16
+pub fn power_limit(view: &View) -> u16
     ensures small { result ≤ 256 }
     ensures above { (known : List Fact) (power : ℕ) (role : AnyRole) (f : Fact) → Gives known view.now power role f → power < result }
 {

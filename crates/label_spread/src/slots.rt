@@ -4,10 +4,10 @@ ghost use Rattle.label_spread.specs.Steps.{IsInSpan, IsInView};
 ghost use Rattle.label_spread.specs.Slots.{Indexes, IsIndexOf, LooksAt, slot_of, slots_of_block};
 ghost use Rattle.label_spread.specs.declared.slots.Slot.{Slot as AnySlot};
 
-use year_labels::{RuleForm, RuleInst, View};
 use std::alloc::{AllocError, Global};
 use std::collections::BTreeSet;
 use y2k_base::{AreaId, BytePlace, Memory, Span};
+use year_labels::{RuleForm, RuleInst, View};
 
 /// That the rule of that index looks at a byte of that block of 64 bytes of the area.
 #[derive(Clone, Copy, Debug, PartialEq, Eq, PartialOrd, Ord)]

@@ -8,8 +8,8 @@ ghost use Rattle.label_spread.specs.Steps.{Adds, IsMade};
 use crate::known::Known;
 use crate::roles::{give_role, has_role};
 use case_tables::{Flags, Known as Seen, RowTable};
-use year_labels::{Role, View};
 use y2k_base::Memory;
+use year_labels::{Role, View};
 
 /// Adds what the rows say of the operands.
 pub(crate) fn fire_rows<const N: usize>(

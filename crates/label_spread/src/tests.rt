@@ -2,10 +2,10 @@ ghost use Rattle.std.specs.Prelude.{◌≡◌, IfOk, All};
 ghost use Rattle.year_labels.specs.Forms.{IsFit, IsFitView};
 
 use crate::spread;
-use year_labels::{Fact, Label, Role, Rule, RuleForm, RuleInst, Seed, View};
 use std::alloc::Global;
 use std::test::Fail;
 use y2k_base::{AreaId, BytePlace, FileId, List, Origin, Span};
+use year_labels::{Fact, Label, Role, Rule, RuleForm, RuleInst, Seed, View};
 
 fn fact(area: u32, offset: u32, label: Label) -> Fact {
     let area = AreaId(area);

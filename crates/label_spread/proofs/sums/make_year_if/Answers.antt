@@ -1,4 +1,4 @@
-use Rattle.std.proofs.Common.{List, IsTrue, true, false, sym, ◌∙◌}
+use Rattle.std.proofs.Common.{List, IsTrue, true, sym, ◌∙◌}
 use Rattle.std.proofs.lemmas.Bool.{false≢true}
 use Rattle.year_labels.specs.declared.label.Fact.{Fact}
 use Rattle.year_labels.specs.Operands.{Makes}
