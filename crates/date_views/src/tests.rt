@@ -10,8 +10,8 @@ use decimal_bytes::{NumForm, SignPlace};
 use operand_kinds::Kind;
 use std::alloc::Global;
 use std::test::Fail;
+use y2k_base::{AreaId, FileId, List, Memory, Origin, PicClass, Picture, Run, Span};
 use year_labels::{Role, Rule, RuleForm, RuleInst, View};
-use y2k_base::{AreaId, List, Memory, Origin, FileId, PicClass, Picture, Run, Span};
 
 fn form_of(digits: u8, scale: u8, signed: bool) -> NumForm {
     NumForm {
@@ -119,16 +119,7 @@ fn digits_stand_where_the_picture_has_them(rt: HostRuntime) -> Result<(), Fail> 
     let kind = Kind::Edited {
         form: form_of(6, 2, false),
     };
-    let expected = [
-        Some(3),
-        None,
-        Some(2),
-        Some(1),
-        Some(0),
-        None,
-        None,
-        None,
-    ];
+    let expected = [Some(3), None, Some(2), Some(1), Some(0), None, None, None];
     let stands = match view_of(alloc, kind, &runs, span(0, 8))? {
         View::Bytes { span: _, powers } => powers.items() == expected,
         _ => false,
@@ -245,11 +236,7 @@ fn numbers_of_two_digits_take_part_in_sums(rt: HostRuntime) -> Result<(), Fail> 
     let mut rules = List::new(alloc);
     add_sum(alloc, &mut rules, at(), &year, &None, &year)?;
     add_difference(alloc, &mut rules, at(), &year, &year, &date)?;
-    let expected = [
-        (Rule::Add, 99),
-        (Rule::Subtract, 99),
-        (Rule::Subtract, 99),
-    ];
+    let expected = [(Rule::Add, 99), (Rule::Subtract, 99), (Rule::Subtract, 99)];
     assert!(rt; shapes_are(&rules, &expected));
     Ok(())
 }

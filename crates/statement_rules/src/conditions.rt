@@ -8,8 +8,8 @@ use cobol_syntax::{CondForm, Condition, Expr, Operand, Place};
 use data_layout::Layout;
 use date_views::{Side, add_comparison, add_difference, add_sum, side_of};
 use std::alloc::Global;
-use year_labels::RuleInst;
 use y2k_base::{List, Memory, Origin};
+use year_labels::RuleInst;
 
 /// The operand that an expression without an operator or a sign is.
 fn single(expr: &Expr) -> Option<&Operand>

@@ -6,8 +6,8 @@ use cobol_syntax::{Operand, Part, Place, Sub};
 use data_layout::{Found, Item, Layout};
 use date_views::{Side, add_plain_bytes, add_use, side_of, whole_side};
 use std::alloc::Global;
-use year_labels::{Rule, RuleInst};
 use y2k_base::{Bytes, List, Memory, Origin};
+use year_labels::{Rule, RuleInst};
 
 /// The one item of a name.
 pub(crate) fn item_named<'a>(layout: &'a Layout, names: &[Bytes]) -> Option<&'a Item>

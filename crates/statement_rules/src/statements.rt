@@ -12,8 +12,8 @@ use cobol_syntax::{Branch, Control, Expr, Form, Operand, Place, Register, Statem
 use data_layout::{Area, Layout};
 use date_views::{Side, add_copy, add_move, add_register, add_sum, area_side, side_of};
 use std::alloc::Global;
-use year_labels::RuleInst;
 use y2k_base::{Bytes, FileId, List, Memory, Origin, Span, Twin, Word};
+use year_labels::RuleInst;
 
 /// Where the word of that number stands.
 pub fn origin_at(words: &[Word], at: u32) -> Origin
