@@ -38,10 +38,13 @@ abbrev pub all_but_one : Span → Step → ℕ → Span
 all_but_one span step first = record { area = span.area; offset = span.offset + first * step.size; length = (step.count - 1) * step.size }
 
 -- each occurrence and the next are alike, and so any two
+abbrev pub table_inst : Origin → Span → Step → RuleInst
+table_inst at span step = inst rules.Occurs at (forms.Alike (all_but_one span step 0) (all_but_one span step 1))
+
 abbrev pub table_rule : Origin → Span → Option Step → List RuleInst
 table_rule at span None = []
 table_rule at span (Some step) =
-    if repeats span step then inst rules.Occurs at (forms.Alike (all_but_one span step 0) (all_but_one span step 1)) ∷ [] else []
+    if repeats span step then table_inst at span step ∷ [] else []
 
 -- the items with OCCURS among some of the items
 abbrev pub table_rules : List Item → List Word → List Item → List RuleInst
@@ -65,17 +68,17 @@ entry_in (Some program) (Some layout) area = entry_of program.words (first_in ar
 
 -- the entry of the first record of a record area
 abbrev pub area_entry : Portfolio → FileArea → Origin
-area_entry portfolio use = entry_in (slice_get portfolio.programs use.program) (slice_get portfolio.layouts use.program) use.area
+area_entry portfolio place = entry_in (slice_get portfolio.programs place.program) (slice_get portfolio.layouts place.program) place.area
 
 abbrev pub record_of : FileArea → ℕ → Span
-record_of use bytes = record { area = use.area; offset = 0; length = bytes }
+record_of place bytes = record { area = place.area; offset = 0; length = bytes }
 
 abbrev pub same_file : Portfolio → ℕ → FileArea → FileArea → RuleInst
 same_file portfolio bytes first later = inst rules.File (area_entry portfolio later) (forms.Alike (record_of first bytes) (record_of later bytes))
 
 abbrev pub later_rules : Portfolio → ℕ → FileArea → List FileArea → List RuleInst
 later_rules portfolio bytes first [] = []
-later_rules portfolio bytes first (use ∷ uses) = same_file portfolio bytes first use ∷ later_rules portfolio bytes first uses
+later_rules portfolio bytes first (later ∷ uses) = same_file portfolio bytes first later ∷ later_rules portfolio bytes first uses
 
 -- each record area of a file and the first are alike, and so any two
 abbrev pub file_rule : Portfolio → ℕ → List FileArea → List RuleInst

@@ -1,4 +1,4 @@
-ghost use Rattle.std.specs.Prelude.{◌≡◌, ◌++◌, OnOk, Some, drop, if◌then◌else◌};
+ghost use Rattle.std.specs.Prelude.{◌≡◌, ◌++◌, ◌∷◌, [], OnOk, IfSome, IfNone, Some, drop, if◌then◌else◌};
 ghost use Rattle.y2k_base.specs.declared.word.Origin.{Origin as AnyOrigin};
 ghost use Rattle.date_views.specs.Uses as uses;
 ghost use Rattle.date_types.specs.Pictures as spec;
@@ -204,6 +204,16 @@ fn add_tie(
     }
 }
 
+fn first_of(pictured: &[Pictured]) -> Option<(Pictured, &[Pictured])>
+    ensures some { IfSome result (λ first. pictured.now ≡ first.0 ∷ first.1.now) }
+    ensures none { IfNone result (pictured.now ≡ []) }
+{
+    match pictured {
+        [] => None,
+        [one, more @ ..] => Some((*one, more)),
+    }
+}
+
 fn add_ties(
     rules: &mut List<RuleInst>,
     longest: &mut Longest,
@@ -212,9 +222,9 @@ fn add_ties(
     ensures { OnOk result (rules.new ≡ rules.old ++ spec.ties (spec.held longest.old) pictured.now) }
 {
     let mut rest = pictured;
-    while let [one, more @ ..] = rest {
-        add_tie(rules, longest.of(one.origin), *one)?;
-        longest.keep(*one)?;
+    while let Some((one, more)) = first_of(rest) {
+        add_tie(rules, longest.of(one.origin), one)?;
+        longest.keep(one)?;
         rest = more;
     }
     Ok(())

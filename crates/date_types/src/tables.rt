@@ -1,4 +1,5 @@
 ghost use Rattle.std.specs.Prelude.{◌≡◌, ◌++◌, ◌∷◌, [], IfOk, OnOk, MatchOption, Some, None};
+ghost use Rattle.date_types.specs.Alike.{AreOccurrencesAlike};
 ghost use Rattle.date_types.specs.Tables as spec;
 ghost use Rattle.statement_rules.specs.Statements.{origin_of};
 
@@ -60,6 +61,41 @@ fn all_but_one(span: Span, step: Step, first: u32) -> Result<Span, Memory>
     }
 }
 
+/// Adds that any two occurrences are alike.
+fn add_occurrences(
+    rules: &mut List<RuleInst>,
+    at: Origin,
+    span: Span,
+    step: Step,
+) -> Result<(), Memory>
+    ensures rules { OnOk result (rules.new ≡ rules.old ++ spec.table_inst at span step ∷ []) }
+    ensures alike { OnOk result (AreOccurrencesAlike rules.new span step) }
+{
+    add_next(rules, at, span, step)?;
+    Ok(())
+}
+
+/// Adds that each occurrence and the next are alike.
+fn add_next(
+    rules: &mut List<RuleInst>,
+    at: Origin,
+    span: Span,
+    step: Step,
+) -> Result<(), Memory>
+    ensures { OnOk result (rules.new ≡ rules.old ++ spec.table_inst at span step ∷ []) }
+{
+    let form = RuleForm::Alike {
+        a: all_but_one(span, step, 0)?,
+        b: all_but_one(span, step, 1)?,
+    };
+    rules.push(RuleInst {
+        rule: Rule::Occurs,
+        at,
+        form,
+    })?;
+    Ok(())
+}
+
 fn add_table_of(
     rules: &mut List<RuleInst>,
     at: Origin,
@@ -72,15 +108,7 @@ fn add_table_of(
         None => Ok(()),
         Some(step) => {
             if repeats(span, step) {
-                let form = RuleForm::Alike {
-                    a: all_but_one(span, step, 0)?,
-                    b: all_but_one(span, step, 1)?,
-                };
-                rules.push(RuleInst {
-                    rule: Rule::Occurs,
-                    at,
-                    form,
-                })?;
+                add_occurrences(rules, at, span, step)?;
                 Ok(())
             } else {
                 Ok(())

@@ -120,8 +120,9 @@ fn digits_stand_where_the_picture_has_them(rt: HostRuntime) -> Result<(), Fail> 
         form: form_of(6, 2, false),
     };
     let expected = [Some(3), None, Some(2), Some(1), Some(0), None, None, None];
-    let stands = match view_of(alloc, kind, &runs, span(0, 8))? {
-        View::Bytes { span: _, powers } => powers.items() == expected,
+    let view = view_of(alloc, kind, &runs, span(0, 8))?;
+    let stands = match &view {
+        View::Bytes { span: _, powers } => powers.items() == expected.as_slice(),
         _ => false,
     };
     assert!(rt; stands);
