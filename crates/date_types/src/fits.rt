@@ -1,8 +1,8 @@
 ghost use Rattle.std.specs.Prelude.{◌↔◌, IsTrue, All};
 ghost use Rattle.year_labels.specs.Forms.{IsFit, IsFitView, IsPlaced};
 
-use year_labels::{RuleForm, RuleInst, View};
 use y2k_base::Span;
+use year_labels::{RuleForm, RuleInst, View};
 
 fn is_placed(span: Span) -> bool
     ensures { IsTrue result ↔ IsPlaced span }
@@ -14,9 +14,7 @@ fn is_fit_view(view: &View) -> bool
     ensures { IsTrue result ↔ IsFitView view.now }
 {
     match view {
-        View::Bytes { span, powers } => {
-            is_placed(*span) && powers.len() == span.length as usize
-        }
+        View::Bytes { span, powers } => { is_placed(*span) && powers.len() == span.length as usize }
         View::Packed { span, digits } => {
             is_placed(*span) && span.length == u32::from(*digits) / 2 + 1
         }

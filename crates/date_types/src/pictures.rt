@@ -8,8 +8,8 @@ use data_layout::{Item, Layout};
 use statement_rules::origin_at;
 use std::alloc::Global;
 use std::collections::BTreeMap;
-use year_labels::{Rule, RuleForm, RuleInst};
 use y2k_base::{List, Memory, Origin, Span, Word, WordKind};
+use year_labels::{Rule, RuleForm, RuleInst};
 
 /// An item with the place of its PICTURE word, and that of its level number.
 #[derive(Clone, Copy, Debug, PartialEq, Eq)]
@@ -77,7 +77,11 @@ fn front(span: Span, most: u32) -> Span
     Span {
         area: span.area,
         offset: span.offset,
-        length: if span.length < most { span.length } else { most },
+        length: if span.length < most {
+            span.length
+        } else {
+            most
+        },
     }
 }
 
@@ -118,11 +122,7 @@ fn picture_from(words: &[Word], at: u32) -> Option<Origin>
     }
 }
 
-fn add_pictured(
-    items: &mut List<Pictured>,
-    words: &[Word],
-    item: &Item,
-) -> Result<(), Memory>
+fn add_pictured(items: &mut List<Pictured>, words: &[Word], item: &Item) -> Result<(), Memory>
     ensures { OnOk result (items.new ≡ items.old ++ spec.pictured_item words.now item.now) }
 {
     if item.picture.is_none() {

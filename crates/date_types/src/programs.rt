@@ -9,8 +9,8 @@ use data_layout::{Item, Layout};
 use date_views::add_item;
 use statement_rules::{add_place_use, add_statements, origin_at};
 use std::alloc::Global;
-use year_labels::RuleInst;
 use y2k_base::{List, Memory, Origin, Word};
+use year_labels::RuleInst;
 
 /// Adds what is plain of each item wherever it is used.
 fn add_items(

@@ -6,9 +6,8 @@ ghost use Rattle.statement_rules.specs.Statements.{origin_of};
 use cobol_syntax::Program;
 use data_layout::{FileArea, FileUse, Item, Layout, Portfolio, Step};
 use statement_rules::origin_at;
-
-use year_labels::{Rule, RuleForm, RuleInst};
 use y2k_base::{AreaId, FileId, List, Memory, Origin, Span, Word};
+use year_labels::{Rule, RuleForm, RuleInst};
 
 fn outer_steps(items: &[Item], parent: Option<u32>) -> usize
     ensures { result ≡ spec.outer_steps items.now parent }
@@ -76,12 +75,7 @@ fn add_occurrences(
 }
 
 /// Adds that each occurrence and the next are alike.
-fn add_next(
-    rules: &mut List<RuleInst>,
-    at: Origin,
-    span: Span,
-    step: Step,
-) -> Result<(), Memory>
+fn add_next(rules: &mut List<RuleInst>, at: Origin, span: Span, step: Step) -> Result<(), Memory>
     ensures { OnOk result (rules.new ≡ rules.old ++ spec.table_inst at span step ∷ []) }
 {
     let form = RuleForm::Alike {

@@ -20,12 +20,7 @@ fn bytes_of(alloc: Global, text: &[u8]) -> Result<Bytes, Memory> {
 }
 
 /// An entry of level 05, but for G, which is the 01; it has a picture where one is given.
-fn entry_of(
-    alloc: Global,
-    name: u8,
-    picture: &[u8],
-    occurs: Option<u32>,
-) -> Result<Entry, Memory> {
+fn entry_of(alloc: Global, name: u8, picture: &[u8], occurs: Option<u32>) -> Result<Entry, Memory> {
     Ok(Entry {
         level: if name == b'G' { 1 } else { 5 },
         name: Some(bytes_of(alloc, &[name])?),

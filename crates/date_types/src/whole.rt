@@ -10,8 +10,8 @@ use crate::programs::add_programs;
 use crate::tables::add_files;
 use data_layout::Portfolio;
 use std::alloc::Global;
-use year_labels::RuleInst;
 use y2k_base::{List, Memory};
+use year_labels::RuleInst;
 
 /// The rules of a portfolio, each with the first word of its statement or the level number of its entry: those of each
 /// program in order, those of its files, and those of items with one PICTURE word. A span that 32 bits can't address is want
