@@ -1,0 +1,5 @@
+pub mod Tables
+pub mod Alike
+pub mod Pictures
+pub mod Programs
+pub mod Whole
