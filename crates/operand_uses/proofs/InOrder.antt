@@ -1,0 +1,39 @@
+-- The first of faults in two lists.
+use Rattle.std.proofs.Common.{◌≡◌, ◌≤◌, ℕ, Bool, true, false, cond, List, [], ◌∷◌, ◌++◌, refl, sym, ap, ◌∙◌, Option, Some, None, if◌then◌else◌, arith}
+use Rattle.std.specs.Prelude.{nat_le}
+use Rattle.operand_uses.specs.declared.fault.UseFault.{UseFault}
+use Rattle.operand_uses.specs.Order.{turn, inserted, in_order, sooner_of, sooner, earliest}
+
+-- the one of three that comes first, where the comparisons are so
+by_turns : (a b c : UseFault) → sooner_of (sooner_of a b) c ≡ sooner_of a (sooner_of b c)
+by_turns a b c =
+    elim (nat_le (turn a) (turn b)) as (λ (p : Bool). nat_le (turn a) (turn b) ≡ p → sooner_of (cond p a b) c ≡ sooner_of a (sooner_of b c)) [
+      | true ↦ λ ab. elim (nat_le (turn b) (turn c)) as (λ (q : Bool). nat_le (turn b) (turn c) ≡ q → sooner_of a c ≡ sooner_of a (cond q b c)) [
+        | true ↦ λ bc. ap (λ (r : Bool). cond r a c) (over ab bc) ∙ sym (ap (λ (r : Bool). cond r a b) ab)
+        | false ↦ λ bc. refl
+      ] refl
+      | false ↦ λ ab. elim (nat_le (turn b) (turn c)) as (λ (q : Bool). nat_le (turn b) (turn c) ≡ q → sooner_of b c ≡ sooner_of a (cond q b c)) [
+        | true ↦ λ bc. ap (λ (r : Bool). cond r b c) bc ∙ sym (ap (λ (r : Bool). cond r a b) ab)
+        | false ↦ λ bc. ap (λ (r : Bool). cond r b c) bc ∙ sym (ap (λ (r : Bool). cond r a c) (under ab bc))
+      ] refl
+    ] refl
+  where
+    over : nat_le (turn a) (turn b) ≡ true → nat_le (turn b) (turn c) ≡ true → nat_le (turn a) (turn c) ≡ true
+    over ab bc = grind (arith, ab, bc)
+
+    under : nat_le (turn a) (turn b) ≡ false → nat_le (turn b) (turn c) ≡ false → nat_le (turn a) (turn c) ≡ false
+    under ab bc = grind (arith, ab, bc)
+
+pub sooner-sooner : (x y z : Option UseFault) → sooner (sooner x y) z ≡ sooner x (sooner y z)
+sooner-sooner None y z = refl
+sooner-sooner (Some a) None z = refl
+sooner-sooner (Some a) (Some b) None = refl
+sooner-sooner (Some a) (Some b) (Some c) = ap (λ (f : UseFault). Some f) (by_turns a b c)
+
+pub sooner-none : (x : Option UseFault) → sooner x None ≡ x
+sooner-none None = refl
+sooner-none (Some a) = refl
+
+pub earliest_both : (xs ys : List UseFault) → earliest (xs ++ ys) ≡ sooner (earliest xs) (earliest ys)
+earliest_both [] ys = refl
+earliest_both (x ∷ xs) ys = ap (sooner (Some x)) (earliest_both xs ys) ∙ sym (sooner-sooner (Some x) (earliest xs) (earliest ys))
