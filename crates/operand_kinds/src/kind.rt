@@ -103,7 +103,8 @@ pub fn kind_of_item(item: &Item) -> Kind
 pub fn copies_bytes(from: Kind, to: Kind) -> bool
     ensures { result ≡ spec.copies_bytes from to }
 {
-    (from.is_group() || to.is_group()) || (!to.is_aligned() && (!from.is_number() || from.is_digits()))
+    (from.is_group() || to.is_group())
+        || (!to.is_aligned() && (!from.is_number() || from.is_digits()))
 }
 
 /// Whether two items or references are compared by their values, and not by their bytes.

@@ -10,5 +10,5 @@ mod seen;
 mod tests;
 
 pub use kind::{Kind, compares_values, copies_bytes, kind_of_item};
-pub use reach::{Reach, reach};
+pub use reach::{Reach, bytes_reached};
 pub use seen::{Seen, is_subscript, see};

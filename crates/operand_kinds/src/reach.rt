@@ -16,7 +16,7 @@ pub enum Reach {
 
 /// The bytes that a place takes of an item of so many bytes, by its reference modification if it has one. A literal
 /// start or length that leaves the item is taken as it is written.
-pub fn reach(cut: &Option<Part>, bytes: u32) -> Reach
+pub fn bytes_reached(cut: &Option<Part>, bytes: u32) -> Reach
     ensures { result ≡ spec.reach cut.now bytes }
 {
     match cut {

@@ -3,10 +3,10 @@ ghost use Rattle.data_layout.specs.Index.{IsReady};
 ghost use Rattle.operand_kinds.specs.Kinds as spec;
 
 use crate::kind::{Kind, kind_of_item};
-use crate::reach::{Reach, reach};
+use crate::reach::{Reach, bytes_reached};
 use cobol_syntax::{Part, Place};
-use data_layout::{Found, Layout};
-use y2k_base::Bytes;
+use data_layout::{Found, Layout, Step};
+use y2k_base::{Bytes, List};
 
 /// A place as its program's layout shows it: the number of its item, what it is, and which bytes it takes.
 #[derive(Clone, Copy, Debug, PartialEq, Eq)]
@@ -36,7 +36,7 @@ fn see_item(layout: &Layout, number: u32, cut: &Option<Part>) -> Option<Seen>
         Some(item) => Some(Seen {
             item: number,
             kind: kind_of_part(cut, kind_of_item(item)),
-            reach: reach(cut, item.span.length),
+            reach: bytes_reached(cut, item.span.length),
         }),
         None => None,
     }
@@ -68,7 +68,16 @@ fn is_single_integer(layout: &Layout, number: u32) -> bool
     ensures { result ≡ spec.is_single_integer (slice_get layout.now.items number) }
 {
     match layout.items.items().get(number as usize) {
-        Some(item) => kind_of_item(item).is_integer() && item.steps.is_empty(),
+        Some(item) => kind_of_item(item).is_integer() && has_no_steps(&item.steps),
         None => false,
+    }
+}
+
+fn has_no_steps(steps: &List<Step>) -> bool
+    ensures { result ≡ spec.has_no_steps steps.now }
+{
+    match steps.items() {
+        [] => true,
+        [_, ..] => false,
     }
 }

@@ -1,6 +1,7 @@
 -- The first of faults in two lists.
 use Rattle.std.proofs.Common.{◌≡◌, ◌≤◌, ℕ, Bool, true, false, cond, List, [], ◌∷◌, ◌++◌, refl, sym, ap, ◌∙◌, Option, Some, None, if◌then◌else◌, arith}
 use Rattle.std.specs.Prelude.{nat_le}
+use Rattle.std.proofs.lemmas.Bool.{leb-true, leb-false, le-leb, lt-leb}
 use Rattle.operand_uses.specs.declared.fault.UseFault.{UseFault}
 use Rattle.operand_uses.specs.Order.{turn, inserted, in_order, sooner_of, sooner, earliest}
 
@@ -19,10 +20,10 @@ by_turns a b c =
     ] refl
   where
     over : nat_le (turn a) (turn b) ≡ true → nat_le (turn b) (turn c) ≡ true → nat_le (turn a) (turn c) ≡ true
-    over ab bc = grind (arith, ab, bc)
+    over ab bc = le-leb (turn a) (turn c) (omega (arith, leb-true (turn a) (turn b) ab, leb-true (turn b) (turn c) bc))
 
     under : nat_le (turn a) (turn b) ≡ false → nat_le (turn b) (turn c) ≡ false → nat_le (turn a) (turn c) ≡ false
-    under ab bc = grind (arith, ab, bc)
+    under ab bc = lt-leb (turn a) (turn c) (omega (arith, leb-false (turn a) (turn b) ab, leb-false (turn b) (turn c) bc))
 
 pub sooner-sooner : (x y z : Option UseFault) → sooner (sooner x y) z ≡ sooner x (sooner y z)
 sooner-sooner None y z = refl
