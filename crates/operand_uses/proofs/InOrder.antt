@@ -1,9 +1,9 @@
--- The first of faults in two lists.
+-- Which of several faults comes first.
 use Rattle.std.proofs.Common.{◌≡◌, ◌≤◌, ℕ, Bool, true, false, cond, List, [], ◌∷◌, ◌++◌, refl, sym, ap, ◌∙◌, Option, Some, None, if◌then◌else◌, arith}
 use Rattle.std.specs.Prelude.{nat_le}
 use Rattle.std.proofs.lemmas.Bool.{leb-true, leb-false, le-leb, lt-leb}
 use Rattle.operand_uses.specs.declared.fault.UseFault.{UseFault}
-use Rattle.operand_uses.specs.Order.{turn, inserted, in_order, sooner_of, sooner, earliest}
+use Rattle.operand_uses.specs.Order.{turn, sooner_of, sooner}
 
 -- the one of three that comes first, where the comparisons are so
 by_turns : (a b c : UseFault) → sooner_of (sooner_of a b) c ≡ sooner_of a (sooner_of b c)
@@ -34,7 +34,3 @@ sooner-sooner (Some a) (Some b) (Some c) = ap (λ (f : UseFault). Some f) (by_tu
 pub sooner-none : (x : Option UseFault) → sooner x None ≡ x
 sooner-none None = refl
 sooner-none (Some a) = refl
-
-pub earliest_both : (xs ys : List UseFault) → earliest (xs ++ ys) ≡ sooner (earliest xs) (earliest ys)
-earliest_both [] ys = refl
-earliest_both (x ∷ xs) ys = ap (sooner (Some x)) (earliest_both xs ys) ∙ sym (sooner-sooner (Some x) (earliest xs) (earliest ys))

@@ -1,25 +1,26 @@
 -- Arithmetic expressions.
-use Rattle.std.specs.Prelude.{ℕ, Bool, true, false, ◌&&◌, List, [], ◌++◌, Option, Some, None}
+use Rattle.std.specs.Prelude.{ℕ, Bool, true, false, ◌&&◌, Option, Some, None}
 use Rattle.cobol_syntax.specs.declared.expr.Operand.{Operand}
 use Rattle.cobol_syntax.specs.declared.expr.Expr.{Expr, Expr-F, fold-Expr}
 use Rattle.cobol_syntax.specs.declared.expr.Expr.TheOpen as e
 use Rattle.data_layout.specs.declared.item.Layout.{Layout}
 use Rattle.operand_uses.specs.declared.fault.UseFault.{UseFault}
 use Rattle.operand_uses.specs.declared.sort.Sort.{Sort}
-use Rattle.operand_uses.specs.Operands.{operand_faults, sort_of, counts, compares_right}
+use Rattle.operand_uses.specs.Order.{sooner}
+use Rattle.operand_uses.specs.Operands.{operand_fault, sort_of, counts, compares_right}
 
 module _ (layout : Layout) where
-  abbrev pub expr_faults_layer : ℕ → Expr-F (List UseFault) → List UseFault
-  expr_faults_layer owner (e.One x) = operand_faults layout owner x
-  expr_faults_layer owner (e.Minus x) = x
-  expr_faults_layer owner (e.Add x y) = x ++ y
-  expr_faults_layer owner (e.Sub x y) = x ++ y
-  expr_faults_layer owner (e.Mul x y) = x ++ y
-  expr_faults_layer owner (e.Div x y) = x ++ y
+  abbrev pub expr_fault_layer : ℕ → Expr-F (Option UseFault) → Option UseFault
+  expr_fault_layer owner (e.One x) = operand_fault layout owner x
+  expr_fault_layer owner (e.Minus x) = x
+  expr_fault_layer owner (e.Add x y) = sooner x y
+  expr_fault_layer owner (e.Sub x y) = sooner x y
+  expr_fault_layer owner (e.Mul x y) = sooner x y
+  expr_fault_layer owner (e.Div x y) = sooner x y
 
-  -- the identifiers in an expression
-  abbrev pub expr_faults : ℕ → Expr → List UseFault
-  expr_faults owner = fold-Expr (List UseFault) (expr_faults_layer owner)
+  -- the first fault of the identifiers in an expression
+  abbrev pub expr_fault : ℕ → Expr → Option UseFault
+  expr_fault owner = fold-Expr (Option UseFault) (expr_fault_layer owner)
 
   abbrev pub all_numbers_layer : Expr-F Bool → Bool
   all_numbers_layer (e.One x) = counts (sort_of layout x)

@@ -1,5 +1,5 @@
 -- What operands are, and which of them may stand where.
-use Rattle.std.specs.Prelude.{ℕ, Bool, true, false, not, ◌||◌, ◌&&◌, ◌==◌, nat_le, List, [], ◌∷◌, ◌++◌, length, Option, Some, None, if◌then◌else◌}
+use Rattle.std.specs.Prelude.{ℕ, Bool, true, false, not, ◌||◌, ◌&&◌, ◌==◌, nat_le, length, Option, Some, None, if◌then◌else◌}
 use Rattle.cobol_syntax.specs.declared.place.Place.{Place}
 use Rattle.cobol_syntax.specs.declared.expr.Operand.{Operand}
 use Rattle.cobol_syntax.specs.declared.expr.Operand.TheVariants as operand
@@ -14,7 +14,7 @@ use Rattle.operand_kinds.specs.Kinds.{is_group, is_number, is_edited, is_aligned
 use Rattle.operand_uses.specs.declared.fault.UseFault.{UseFault}
 use Rattle.operand_uses.specs.declared.sort.Sort.{Sort}
 use Rattle.operand_uses.specs.declared.sort.Sort.TheVariants as sort
-use Rattle.operand_uses.specs.Places.{place_faults}
+use Rattle.operand_uses.specs.Places.{place_fault}
 
 -- the length of a place, where its text gives it
 abbrev pub length_of : Reach → Option ℕ
@@ -39,15 +39,15 @@ sort_of layout (operand.Text bytes at) = sort.Text (length bytes)
 sort_of layout (operand.Figure byte at) = sort_of_figure byte
 
 -- the identifier that an operand may be
-abbrev pub operand_faults : Layout → ℕ → Operand → List UseFault
-operand_faults layout owner (operand.Place place) = place_faults layout owner place
-operand_faults layout owner (operand.Number value digits at) = []
-operand_faults layout owner (operand.Text bytes at) = []
-operand_faults layout owner (operand.Figure byte at) = []
+abbrev pub operand_fault : Layout → ℕ → Operand → Option UseFault
+operand_fault layout owner (operand.Place place) = place_fault layout owner place
+operand_fault layout owner (operand.Number value digits at) = None
+operand_fault layout owner (operand.Text bytes at) = None
+operand_fault layout owner (operand.Figure byte at) = None
 
-abbrev pub operand_if_faults : Layout → ℕ → Option Operand → List UseFault
-operand_if_faults layout owner None = []
-operand_if_faults layout owner (Some one) = operand_faults layout owner one
+abbrev pub operand_if_fault : Layout → ℕ → Option Operand → Option UseFault
+operand_if_fault layout owner None = None
+operand_if_fault layout owner (Some one) = operand_fault layout owner one
 
 -- a number, as arithmetic, sign tests and counts take it: an item, a literal or ZERO
 abbrev pub counts : Sort → Bool

@@ -1,6 +1,6 @@
 -- The faults of use, and which of them comes first: by their owners in text order; of one owner first its
 -- identifiers in text order, then its file, record or paragraph, then the use itself.
-use Rattle.std.specs.Prelude.{ℕ, ◌+◌, ◌*◌, ◌^◌, Bool, true, false, nat_le, List, [], ◌∷◌, Option, Some, None, if◌then◌else◌}
+use Rattle.std.specs.Prelude.{ℕ, ◌+◌, ◌*◌, ◌^◌, Bool, true, false, nat_le, Option, Some, None, if◌then◌else◌}
 use Rattle.operand_uses.specs.declared.fault.NameKind.{NameKind}
 use Rattle.operand_uses.specs.declared.fault.Trouble.{Trouble}
 use Rattle.operand_uses.specs.declared.fault.Trouble.TheVariants as trouble
@@ -16,40 +16,26 @@ turn_within trouble.File = 2 ^ 32 + 2
 abbrev pub turn : UseFault → ℕ
 turn fault = fault.owner * 2 ^ 33 + turn_within fault.trouble
 
--- a fault put where it belongs among others
-abbrev pub inserted : UseFault → List UseFault → List UseFault
-inserted fault [] = fault ∷ []
-inserted fault (next ∷ others) =
-    if nat_le (turn fault) (turn next) then fault ∷ next ∷ others else next ∷ inserted fault others
-
-abbrev pub in_order : List UseFault → List UseFault
-in_order [] = []
-in_order (fault ∷ others) = inserted fault (in_order others)
-
 abbrev pub sooner_of : UseFault → UseFault → UseFault
 sooner_of one other = if nat_le (turn one) (turn other) then one else other
 
+-- the first fault of both
 abbrev pub sooner : Option UseFault → Option UseFault → Option UseFault
 sooner None other = other
 sooner (Some one) None = Some one
 sooner (Some one) (Some other) = Some (sooner_of one other)
 
--- the one that comes first
-abbrev pub earliest : List UseFault → Option UseFault
-earliest [] = None
-earliest (fault ∷ others) = sooner (Some fault) (earliest others)
-
 -- a use that is right, or has no meaning
-abbrev pub shape_faults : ℕ → Bool → List UseFault
-shape_faults owner true = []
-shape_faults owner false = record { owner = owner; trouble = trouble.Shape } ∷ []
+abbrev pub shape_fault : ℕ → Bool → Option UseFault
+shape_fault owner true = None
+shape_fault owner false = Some (record { owner = owner; trouble = trouble.Shape })
 
 -- an identifier at a position
-abbrev pub faults_at : ℕ → ℕ → Option NameKind → List UseFault
-faults_at owner at None = []
-faults_at owner at (Some kind) = record { owner = owner; trouble = trouble.Place at kind } ∷ []
+abbrev pub fault_at : ℕ → ℕ → Option NameKind → Option UseFault
+fault_at owner at None = None
+fault_at owner at (Some kind) = Some (record { owner = owner; trouble = trouble.Place at kind })
 
 -- the name of a file, a record or a paragraph
-abbrev pub name_faults : ℕ → Option NameKind → List UseFault
-name_faults owner None = []
-name_faults owner (Some kind) = record { owner = owner; trouble = trouble.Name kind } ∷ []
+abbrev pub name_fault : ℕ → Option NameKind → Option UseFault
+name_fault owner None = None
+name_fault owner (Some kind) = Some (record { owner = owner; trouble = trouble.Name kind })

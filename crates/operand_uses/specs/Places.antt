@@ -1,5 +1,5 @@
 -- What is wrong with an identifier: its names, and its subscripts and reference.
-use Rattle.std.specs.Prelude.{ℕ, ◌-◌, Bool, true, false, ◌&&◌, nat_le, List, [], ◌∷◌, ◌++◌, Option, Some, None, slice_get}
+use Rattle.std.specs.Prelude.{ℕ, ◌-◌, Bool, true, false, ◌&&◌, nat_le, List, [], ◌∷◌, Option, Some, None, slice_get}
 use Rattle.cobol_syntax.specs.declared.place.Place.{Place}
 use Rattle.cobol_syntax.specs.declared.place.Part.{Part}
 use Rattle.cobol_syntax.specs.declared.place.Sub.{Sub}
@@ -15,7 +15,7 @@ use Rattle.operand_kinds.specs.Kinds.{is_subscript}
 use Rattle.operand_uses.specs.declared.fault.NameKind.{NameKind}
 use Rattle.operand_uses.specs.declared.fault.NameKind.TheVariants as name
 use Rattle.operand_uses.specs.declared.fault.UseFault.{UseFault}
-use Rattle.operand_uses.specs.Order.{faults_at, shape_faults}
+use Rattle.operand_uses.specs.Order.{sooner, fault_at, shape_fault}
 
 -- a name that is to mean an item
 abbrev pub wrong_item : Found → Option NameKind
@@ -37,6 +37,10 @@ worse None other = other
 worse (Some name.Unknown) other = Some name.Unknown
 worse (Some name.Twice) None = Some name.Twice
 worse (Some name.Twice) (Some kind) = Some kind
+
+abbrev pub has_no_steps : List Step → Bool
+has_no_steps [] = true
+has_no_steps (step ∷ steps) = false
 
 -- how many bytes a reference may have that starts there
 abbrev pub room : ℕ → Sub → ℕ
@@ -72,9 +76,8 @@ module _ (layout : Layout) where
 
   -- a subscript for each OCCURS
   abbrev pub subscripts_right : List Step → List Sub → Bool
-  subscripts_right [] [] = true
+  subscripts_right steps [] = has_no_steps steps
   subscripts_right [] (one ∷ subs) = false
-  subscripts_right (step ∷ steps) [] = false
   subscripts_right (step ∷ steps) (one ∷ subs) = is_bound step.count one && subscripts_right steps subs
 
   abbrev pub length_right : ℕ → Option Sub → Bool
@@ -96,15 +99,21 @@ module _ (layout : Layout) where
   found_right place found.Unknown = true
   found_right place found.Twice = true
 
-  -- an item's identifier
-  abbrev pub place_faults : ℕ → Place → List UseFault
-  place_faults owner place =
-      faults_at owner place.at (wrong_names (wrong_item (meaning layout place.names)) place)
-      ++ shape_faults owner (found_right place (meaning layout place.names))
+  -- the names of an item's identifier
+  abbrev pub place_name_fault : ℕ → Place → Option UseFault
+  place_name_fault owner place = fault_at owner place.at (wrong_names (wrong_item (meaning layout place.names)) place)
 
-  abbrev pub place_if_faults : ℕ → Option Place → List UseFault
-  place_if_faults owner None = []
-  place_if_faults owner (Some place) = place_faults owner place
+  -- its subscripts and its reference fit the item
+  abbrev pub place_right : Place → Bool
+  place_right place = found_right place (meaning layout place.names)
+
+  -- an item's identifier
+  abbrev pub place_fault : ℕ → Place → Option UseFault
+  place_fault owner place = sooner (place_name_fault owner place) (shape_fault owner (place_right place))
+
+  abbrev pub place_if_fault : ℕ → Option Place → Option UseFault
+  place_if_fault owner None = None
+  place_if_fault owner (Some place) = place_fault owner place
 
   -- a condition-name has the subscripts of its item
   abbrev pub cond_item_right : Place → Option Item → Bool
@@ -122,7 +131,7 @@ module _ (layout : Layout) where
   named_right place found.Twice = true
 
   -- a condition-name
-  abbrev pub named_faults : ℕ → Place → List UseFault
-  named_faults owner place =
-      faults_at owner place.at (wrong_names (wrong_cond (meaning layout place.names)) place)
-      ++ shape_faults owner (named_right place (meaning layout place.names))
+  abbrev pub named_fault : ℕ → Place → Option UseFault
+  named_fault owner place =
+      sooner (fault_at owner place.at (wrong_names (wrong_cond (meaning layout place.names)) place))
+      (shape_fault owner (named_right place (meaning layout place.names)))

@@ -12,7 +12,7 @@ use data_layout::Layout;
 
 fn relation_fault(layout: &Layout, owner: u32, left: &Expr, right: &Expr) -> Option<UseFault>
     requires { IsReady layout.now }
-    ensures { result ≡ order.sooner (order.earliest (exprs.expr_faults layout.now owner left.now)) (order.sooner (order.earliest (exprs.expr_faults layout.now owner right.now)) (order.earliest (order.shape_faults owner (exprs.relation_right layout.now left.now right.now)))) }
+    ensures { result ≡ order.sooner (exprs.expr_fault layout.now owner left.now) (order.sooner (exprs.expr_fault layout.now owner right.now) (order.shape_fault owner (exprs.relation_right layout.now left.now right.now))) }
 {
     let first = expr_fault(layout, owner, left);
     let second = expr_fault(layout, owner, right);
@@ -22,7 +22,7 @@ fn relation_fault(layout: &Layout, owner: u32, left: &Expr, right: &Expr) -> Opt
 
 fn sign_fault(layout: &Layout, owner: u32, of: &Expr) -> Option<UseFault>
     requires { IsReady layout.now }
-    ensures { result ≡ order.sooner (order.earliest (exprs.expr_faults layout.now owner of.now)) (order.earliest (order.shape_faults owner (exprs.all_numbers layout.now of.now))) }
+    ensures { result ≡ order.sooner (exprs.expr_fault layout.now owner of.now) (order.shape_fault owner (exprs.all_numbers layout.now of.now)) }
 {
     sooner(
         expr_fault(layout, owner, of),
@@ -31,10 +31,9 @@ fn sign_fault(layout: &Layout, owner: u32, of: &Expr) -> Option<UseFault>
 }
 
 /// What is wrong in a condition of the statement that begins at `owner`.
-#[tactic(auto, using(crate::proofs::InOrder::earliest_both))]
 pub fn condition_fault(layout: &Layout, owner: u32, condition: &Condition) -> Option<UseFault>
     requires { IsReady layout.now }
-    ensures { result ≡ order.earliest (spec.condition_faults layout.now owner condition.now) }
+    ensures { result ≡ spec.condition_fault layout.now owner condition.now }
 {
     match &condition.form {
         CondForm::Relation {

@@ -11,10 +11,9 @@ use cobol_syntax::Expr;
 use data_layout::Layout;
 
 /// What is wrong with the identifiers in an expression.
-#[tactic(auto, using(crate::proofs::InOrder::earliest_both))]
 pub fn expr_fault(layout: &Layout, owner: u32, value: &Expr) -> Option<UseFault>
     requires { IsReady layout.now }
-    ensures { result ≡ order.earliest (spec.expr_faults layout.now owner value.now) }
+    ensures { result ≡ spec.expr_fault layout.now owner value.now }
 {
     match value {
         Expr::One(operand) => operand_fault(layout, owner, operand),

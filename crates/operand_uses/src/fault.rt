@@ -77,7 +77,7 @@ pub fn sooner(first: Option<UseFault>, second: Option<UseFault>) -> Option<UseFa
 
 /// The fault of a use that has no meaning, unless it is right.
 pub fn shape_fault(owner: u32, right: bool) -> Option<UseFault>
-    ensures { result ≡ spec.earliest (spec.shape_faults owner right) }
+    ensures { result ≡ spec.shape_fault owner right }
 {
     if right {
         None

@@ -14,10 +14,10 @@ mod rule;
 mod sort;
 
 pub use cond::condition_fault;
-pub use expr::{all_numbers, expr_fault};
+pub use expr::{all_numbers, expr_fault, relation_right};
 pub use fault::{NameKind, Trouble, UseFault, shape_fault, sooner};
-pub use name::name_fault;
+pub use name::{name_fault, worse};
 pub use operand::{operand_fault, operand_if_fault};
-pub use place::{place_fault, place_if_fault};
+pub use place::{place_fault, place_if_fault, place_name_fault, place_right};
 pub use rule::{compares_right, is_status, moves_right, receives_number};
 pub use sort::{Sort, sort_of, sort_of_place};

@@ -7,7 +7,7 @@ use data_layout::Found;
 
 /// The fault of the name of a file, a record or a paragraph.
 pub fn name_fault(owner: u32, wrong: Option<NameKind>) -> Option<UseFault>
-    ensures { result ≡ order.earliest (order.name_faults owner wrong) }
+    ensures { result ≡ order.name_fault owner wrong }
 {
     match wrong {
         None => None,
@@ -20,7 +20,7 @@ pub fn name_fault(owner: u32, wrong: Option<NameKind>) -> Option<UseFault>
 
 /// The fault of an identifier.
 pub fn fault_at(owner: u32, at: u32, wrong: Option<NameKind>) -> Option<UseFault>
-    ensures { result ≡ order.earliest (order.faults_at owner at wrong) }
+    ensures { result ≡ order.fault_at owner at wrong }
 {
     match wrong {
         None => None,

@@ -11,7 +11,7 @@ use data_layout::Layout;
 /// What is wrong with the identifier that an operand may be.
 pub fn operand_fault(layout: &Layout, owner: u32, operand: &Operand) -> Option<UseFault>
     requires { IsReady layout.now }
-    ensures { result ≡ order.earliest (spec.operand_faults layout.now owner operand.now) }
+    ensures { result ≡ spec.operand_fault layout.now owner operand.now }
 {
     match operand {
         Operand::Place(place) => place_fault(layout, owner, place),
@@ -32,7 +32,7 @@ pub fn operand_if_fault(
     operand: &Option<Operand>,
 ) -> Option<UseFault>
     requires { IsReady layout.now }
-    ensures { result ≡ order.earliest (spec.operand_if_faults layout.now owner operand.now) }
+    ensures { result ≡ spec.operand_if_fault layout.now owner operand.now }
 {
     match operand {
         None => None,

@@ -91,7 +91,16 @@ fn subscripts_right(layout: &Layout, steps: &[Step], subs: &[Sub]) -> bool
             }
         }
     }
-    tables.is_empty()
+    has_no_steps(tables)
+}
+
+fn has_no_steps(steps: &[Step]) -> bool
+    ensures { result ≡ spec.has_no_steps steps.now }
+{
+    match steps {
+        [] => true,
+        [_, ..] => false,
+    }
 }
 
 /// How many bytes a reference may have that starts there.
@@ -150,23 +159,39 @@ fn found_right(layout: &Layout, place: &Place, found: Found) -> bool
     }
 }
 
+/// What is wrong with the names of an identifier that is to mean an item: its own and those of its subscripts and
+/// reference.
+pub fn place_name_fault(layout: &Layout, owner: u32, place: &Place) -> Option<UseFault>
+    requires { IsReady layout.now }
+    ensures { result ≡ spec.place_name_fault layout.now owner place.now }
+{
+    let own = wrong_item(layout.find(place.names.items()));
+    fault_at(owner, place.at, wrong_names(layout, own, place))
+}
+
+/// Whether the subscripts and the reference of an identifier fit its item.
+pub fn place_right(layout: &Layout, place: &Place) -> bool
+    requires { IsReady layout.now }
+    ensures { result ≡ spec.place_right layout.now place.now }
+{
+    found_right(layout, place, layout.find(place.names.items()))
+}
+
 /// What is wrong with an identifier that is to mean an item.
 pub fn place_fault(layout: &Layout, owner: u32, place: &Place) -> Option<UseFault>
     requires { IsReady layout.now }
-    ensures { result ≡ order.earliest (spec.place_faults layout.now owner place.now) }
+    ensures { result ≡ spec.place_fault layout.now owner place.now }
 {
-    let found = layout.find(place.names.items());
-    let wrong = wrong_names(layout, wrong_item(found), place);
     sooner(
-        fault_at(owner, place.at, wrong),
-        shape_fault(owner, found_right(layout, place, found)),
+        place_name_fault(layout, owner, place),
+        shape_fault(owner, place_right(layout, place)),
     )
 }
 
 /// The same, if there is one.
 pub fn place_if_fault(layout: &Layout, owner: u32, place: &Option<Place>) -> Option<UseFault>
     requires { IsReady layout.now }
-    ensures { result ≡ order.earliest (spec.place_if_faults layout.now owner place.now) }
+    ensures { result ≡ spec.place_if_fault layout.now owner place.now }
 {
     match place {
         None => None,
@@ -209,7 +234,7 @@ fn named_right(layout: &Layout, place: &Place, found: Found) -> bool
 /// What is wrong with an identifier that is to mean a condition-name.
 pub fn named_fault(layout: &Layout, owner: u32, place: &Place) -> Option<UseFault>
     requires { IsReady layout.now }
-    ensures { result ≡ order.earliest (spec.named_faults layout.now owner place.now) }
+    ensures { result ≡ spec.named_fault layout.now owner place.now }
 {
     let found = layout.find(place.names.items());
     let wrong = wrong_names(layout, wrong_cond(found), place);

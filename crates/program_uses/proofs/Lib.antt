@@ -1,0 +1,3 @@
+pub mod InNames
+pub mod InOrder
+pub mod InUses
