@@ -1,3 +1,1 @@
 pub mod InNames
-pub mod InOrder
-pub mod InUses

@@ -1,5 +1,5 @@
--- What is wrong in statements that hold no others.
-use Rattle.std.specs.Prelude.{ℕ, ◌-◌, ◌==◌, Bool, true, false, ◌&&◌, List, [], ◌∷◌, ◌++◌, Option, Some, None, if◌then◌else◌, slice_get}
+-- The first fault in a statement, without what it holds.
+use Rattle.std.specs.Prelude.{ℕ, ◌-◌, ◌==◌, Bool, true, false, ◌&&◌, List, [], ◌∷◌, Option, Some, None, if◌then◌else◌, slice_get}
 use Rattle.y2k_base.specs.declared.place.AreaId.{AreaId}
 use Rattle.cobol_syntax.specs.declared.place.Place.{Place}
 use Rattle.cobol_syntax.specs.declared.expr.Operand.{Operand}
@@ -17,17 +17,17 @@ use Rattle.data_layout.specs.Find.{meaning}
 use Rattle.operand_uses.specs.declared.fault.NameKind.{NameKind}
 use Rattle.operand_uses.specs.declared.fault.NameKind.TheVariants as name
 use Rattle.operand_uses.specs.declared.fault.UseFault.{UseFault}
-use Rattle.operand_uses.specs.Order.{shape_faults, name_faults}
-use Rattle.operand_uses.specs.Places.{worse, place_faults, place_if_faults}
-use Rattle.operand_uses.specs.Operands.{sort_of, sort_of_place, operand_faults, operand_if_faults, counts, is_whole, receives_number, moves_right}
-use Rattle.operand_uses.specs.Exprs.{expr_faults, all_numbers}
-use Rattle.operand_uses.specs.Conditions.{condition_faults}
+use Rattle.operand_uses.specs.Order.{sooner, shape_fault, name_fault}
+use Rattle.operand_uses.specs.Places.{worse, place_fault, place_if_fault}
+use Rattle.operand_uses.specs.Operands.{sort_of, sort_of_place, operand_fault, operand_if_fault, counts, is_whole, receives_number, moves_right}
+use Rattle.operand_uses.specs.Exprs.{expr_fault, all_numbers}
+use Rattle.operand_uses.specs.Conditions.{condition_fault}
 use Rattle.program_uses.specs.Names.{Known}
 
-abbrev pub move_faults : Layout → ℕ → Operand → Place → List UseFault
-move_faults layout owner from to =
-    operand_faults layout owner from
-    ++ (place_faults layout owner to ++ shape_faults owner (moves_right (sort_of layout from) (sort_of_place layout to)))
+abbrev pub move_fault : Layout → ℕ → Operand → Place → Option UseFault
+move_fault layout owner from to =
+    sooner (operand_fault layout owner from)
+    (sooner (place_fault layout owner to) (shape_fault owner (moves_right (sort_of layout from) (sort_of_place layout to))))
 
 abbrev pub counts_if : Layout → Option Place → Bool
 counts_if layout None = true
@@ -38,38 +38,38 @@ abbrev pub computes_right : Layout → Place → Expr → Option Place → Bool
 computes_right layout to value rest =
     (all_numbers layout value && receives_number (sort_of_place layout to)) && counts_if layout rest
 
-abbrev pub compute_faults : Layout → ℕ → Place → Expr → Option Place → List UseFault
-compute_faults layout owner to value rest =
-    expr_faults layout owner value
-    ++ (place_faults layout owner to
-    ++ (place_if_faults layout owner rest ++ shape_faults owner (computes_right layout to value rest)))
+abbrev pub compute_fault : Layout → ℕ → Place → Expr → Option Place → Option UseFault
+compute_fault layout owner to value rest =
+    sooner (expr_fault layout owner value)
+    (sooner (place_fault layout owner to)
+    (sooner (place_if_fault layout owner rest) (shape_fault owner (computes_right layout to value rest))))
 
 -- the item of VARYING, what it starts from and its step are numbers
 abbrev pub varies_right : Layout → Vary → Bool
 varies_right layout vary =
     (counts (sort_of_place layout vary.item) && counts (sort_of layout vary.from)) && counts (sort_of layout vary.by)
 
-abbrev pub vary_faults : Layout → ℕ → Option Vary → List UseFault
-vary_faults layout owner None = []
-vary_faults layout owner (Some vary) =
-    place_faults layout owner vary.item
-    ++ (operand_faults layout owner vary.from
-    ++ (operand_faults layout owner vary.by ++ shape_faults owner (varies_right layout vary)))
+abbrev pub vary_fault : Layout → ℕ → Option Vary → Option UseFault
+vary_fault layout owner None = None
+vary_fault layout owner (Some vary) =
+    sooner (place_fault layout owner vary.item)
+    (sooner (operand_fault layout owner vary.from)
+    (sooner (operand_fault layout owner vary.by) (shape_fault owner (varies_right layout vary))))
 
 -- a count of turns is an integer
-abbrev pub control_faults : Layout → ℕ → Control → List UseFault
-control_faults layout owner control.Once = []
-control_faults layout owner (control.Times count) =
-    operand_faults layout owner count ++ shape_faults owner (is_whole (sort_of layout count))
-control_faults layout owner (control.Until after test vary) =
-    vary_faults layout owner vary ++ condition_faults layout owner test
+abbrev pub control_fault : Layout → ℕ → Control → Option UseFault
+control_fault layout owner control.Once = None
+control_fault layout owner (control.Times count) =
+    sooner (operand_fault layout owner count) (shape_fault owner (is_whole (sort_of layout count)))
+control_fault layout owner (control.Until after test vary) =
+    sooner (vary_fault layout owner vary) (condition_fault layout owner test)
 
-abbrev pub range_faults : Known → ℕ → Option NamePair → List UseFault
-range_faults paragraphs owner None = []
-range_faults paragraphs owner (Some pair) = name_faults owner (worse (paragraphs pair.first) (paragraphs pair.last))
+abbrev pub range_fault : Known → ℕ → Option NamePair → Option UseFault
+range_fault paragraphs owner None = None
+range_fault paragraphs owner (Some pair) = name_fault owner (worse (paragraphs pair.first) (paragraphs pair.last))
 
-abbrev pub read_faults : Layout → Known → ℕ → List ℕ → Option Place → List UseFault
-read_faults layout files owner file into = place_if_faults layout owner into ++ name_faults owner (files file)
+abbrev pub read_fault : Layout → Known → ℕ → List ℕ → Option Place → Option UseFault
+read_fault layout files owner file into = sooner (place_if_fault layout owner into) (name_fault owner (files file))
 
 -- areas are numbered one after another
 abbrev pub first_area : Option Area → ℕ
@@ -98,12 +98,13 @@ abbrev pub advances_right : Layout → Option Operand → Bool
 advances_right layout None = true
 advances_right layout (Some count) = counts (sort_of layout count)
 
-abbrev pub write_faults : Layout → ℕ → List ℕ → Option Operand → Option Operand → List UseFault
-write_faults layout owner record_name from advance =
-    operand_if_faults layout owner from
-    ++ (operand_if_faults layout owner advance
-    ++ (name_faults owner (wrong_record layout (meaning layout (record_name ∷ []))) ++ shape_faults owner (advances_right layout advance)))
+abbrev pub write_fault : Layout → ℕ → List ℕ → Option Operand → Option Operand → Option UseFault
+write_fault layout owner record_name from advance =
+    sooner (operand_if_fault layout owner from)
+    (sooner (operand_if_fault layout owner advance)
+    (sooner (name_fault owner (wrong_record layout (meaning layout (record_name ∷ [])))) (shape_fault owner (advances_right layout advance))))
 
-abbrev pub show_faults : Layout → ℕ → List Operand → List UseFault
-show_faults layout owner [] = []
-show_faults layout owner (operand ∷ operands) = operand_faults layout owner operand ++ show_faults layout owner operands
+-- operands one after another, after what is at fault already
+abbrev pub show_fault : Layout → ℕ → Option UseFault → List Operand → Option UseFault
+show_fault layout owner fault [] = fault
+show_fault layout owner fault (operand ∷ operands) = show_fault layout owner (sooner fault (operand_fault layout owner operand)) operands

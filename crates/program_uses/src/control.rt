@@ -1,6 +1,5 @@
 ghost use Rattle.std.specs.Prelude.{◌≡◌};
 ghost use Rattle.data_layout.specs.Index.{IsReady};
-ghost use Rattle.operand_uses.specs.Order as order;
 ghost use Rattle.program_uses.specs.Names.{known};
 ghost use Rattle.program_uses.specs.Simple as spec;
 
@@ -21,10 +20,9 @@ fn varies_right(layout: &Layout, vary: &Vary) -> bool
 }
 
 /// What is wrong in VARYING.
-#[tactic(auto, using(crate::proofs::InOrder::in_order))]
 fn vary_fault(layout: &Layout, owner: u32, vary: &Option<Vary>) -> Option<UseFault>
     requires { IsReady layout.now }
-    ensures { result ≡ order.earliest (spec.vary_faults layout.now owner vary.now) }
+    ensures { result ≡ spec.vary_fault layout.now owner vary.now }
 {
     match vary {
         None => None,
@@ -39,10 +37,9 @@ fn vary_fault(layout: &Layout, owner: u32, vary: &Option<Vary>) -> Option<UseFau
 }
 
 /// What is wrong in the control of a PERFORM.
-#[tactic(auto, using(crate::proofs::InOrder::in_order))]
 pub(crate) fn control_fault(layout: &Layout, owner: u32, control: &Control) -> Option<UseFault>
     requires { IsReady layout.now }
-    ensures { result ≡ order.earliest (spec.control_faults layout.now owner control.now) }
+    ensures { result ≡ spec.control_fault layout.now owner control.now }
 {
     match control {
         Control::Once => None,
@@ -63,7 +60,7 @@ pub(crate) fn control_fault(layout: &Layout, owner: u32, control: &Control) -> O
 
 /// What is wrong with the paragraphs or sections of a PERFORM.
 pub(crate) fn range_fault(paragraphs: &NameMap, owner: u32, range: &Option<NamePair>) -> Option<UseFault>
-    ensures { result ≡ order.earliest (spec.range_faults (known paragraphs.now) owner range.now) }
+    ensures { result ≡ spec.range_fault (known paragraphs.now) owner range.now }
 {
     match range {
         None => None,

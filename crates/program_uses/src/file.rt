@@ -1,6 +1,5 @@
 ghost use Rattle.std.specs.Prelude.{◌≡◌, slice_get};
 ghost use Rattle.data_layout.specs.Index.{IsReady};
-ghost use Rattle.operand_uses.specs.Order as order;
 ghost use Rattle.program_uses.specs.Names.{known};
 ghost use Rattle.program_uses.specs.Simple as spec;
 
@@ -14,7 +13,6 @@ use std::slice::from_ref;
 use y2k_base::{AreaId, Bytes};
 
 /// What is wrong in a READ.
-#[tactic(auto, using(crate::proofs::InOrder::in_order))]
 pub(crate) fn read_fault(
     layout: &Layout,
     files: &NameMap,
@@ -23,7 +21,7 @@ pub(crate) fn read_fault(
     into: &Option<Place>,
 ) -> Option<UseFault>
     requires { IsReady layout.now }
-    ensures { result ≡ order.earliest (spec.read_faults layout.now (known files.now) owner file.now into.now) }
+    ensures { result ≡ spec.read_fault layout.now (known files.now) owner file.now into.now }
 {
     sooner(
         place_if_fault(layout, owner, into),
@@ -90,7 +88,6 @@ fn advances_right(layout: &Layout, count: &Option<Operand>) -> bool
 }
 
 /// What is wrong in a WRITE.
-#[tactic(auto, using(crate::proofs::InOrder::in_order))]
 pub(crate) fn write_fault(
     layout: &Layout,
     owner: u32,
@@ -99,7 +96,7 @@ pub(crate) fn write_fault(
     advance: &Option<Operand>,
 ) -> Option<UseFault>
     requires { IsReady layout.now }
-    ensures { result ≡ order.earliest (spec.write_faults layout.now owner name.now from.now advance.now) }
+    ensures { result ≡ spec.write_fault layout.now owner name.now from.now advance.now }
 {
     let sender = operand_if_fault(layout, owner, from);
     let count = operand_if_fault(layout, owner, advance);

@@ -3,6 +3,7 @@
 //! one that comes first in the text is named.
 #![tactic(auto)]
 
+mod beside;
 mod check;
 mod control;
 mod data;

@@ -1,6 +1,5 @@
-ghost use Rattle.std.specs.Prelude.{◌≡◌};
+ghost use Rattle.std.specs.Prelude.{◌≡◌, None};
 ghost use Rattle.data_layout.specs.Index.{IsReady};
-ghost use Rattle.operand_uses.specs.Order as order;
 ghost use Rattle.program_uses.specs.Simple as spec;
 
 use cobol_syntax::{Expr, Operand, Place};
@@ -11,10 +10,9 @@ use operand_uses::{
 };
 
 /// What is wrong in a MOVE.
-#[tactic(auto, using(crate::proofs::InOrder::in_order))]
 pub(crate) fn move_fault(layout: &Layout, owner: u32, from: &Operand, to: &Place) -> Option<UseFault>
     requires { IsReady layout.now }
-    ensures { result ≡ order.earliest (spec.move_faults layout.now owner from.now to.now) }
+    ensures { result ≡ spec.move_fault layout.now owner from.now to.now }
 {
     let sender = operand_fault(layout, owner, from);
     let receiver = place_fault(layout, owner, to);
@@ -42,7 +40,6 @@ fn computes_right(layout: &Layout, to: &Place, value: &Expr, rest: &Option<Place
 }
 
 /// What is wrong in an arithmetic statement.
-#[tactic(auto, using(crate::proofs::InOrder::in_order))]
 pub(crate) fn compute_fault(
     layout: &Layout,
     owner: u32,
@@ -51,7 +48,7 @@ pub(crate) fn compute_fault(
     rest: &Option<Place>,
 ) -> Option<UseFault>
     requires { IsReady layout.now }
-    ensures { result ≡ order.earliest (spec.compute_faults layout.now owner to.now value.now rest.now) }
+    ensures { result ≡ spec.compute_fault layout.now owner to.now value.now rest.now }
 {
     let operands = expr_fault(layout, owner, value);
     let receiver = place_fault(layout, owner, to);
@@ -61,10 +58,9 @@ pub(crate) fn compute_fault(
 }
 
 /// What is wrong in a DISPLAY.
-#[tactic(auto, using(crate::proofs::InOrder::in_order))]
 pub(crate) fn show_fault(layout: &Layout, owner: u32, operands: &[Operand]) -> Option<UseFault>
     requires { IsReady layout.now }
-    ensures { result ≡ order.earliest (spec.show_faults layout.now owner operands.now) }
+    ensures { result ≡ spec.show_fault layout.now owner None operands.now }
 {
     let mut fault = None;
     for operand in operands {
