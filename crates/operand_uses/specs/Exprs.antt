@@ -1,6 +1,5 @@
 -- Arithmetic expressions.
-use Rattle.std.specs.Prelude.{ℕ, Bool, true, false, ◌&&◌, Option, Some, None}
-use Rattle.cobol_syntax.specs.declared.expr.Operand.{Operand}
+use Rattle.std.specs.Prelude.{ℕ, Bool, ◌&&◌, Option, Some, None}
 use Rattle.cobol_syntax.specs.declared.expr.Expr.{Expr, Expr-F, fold-Expr}
 use Rattle.cobol_syntax.specs.declared.expr.Expr.TheOpen as e
 use Rattle.data_layout.specs.declared.item.Layout.{Layout}

@@ -3,14 +3,13 @@ use Rattle.std.specs.Prelude.{ℕ, Bool, true, false, not, ◌||◌, ◌&&◌, �
 use Rattle.cobol_syntax.specs.declared.place.Place.{Place}
 use Rattle.cobol_syntax.specs.declared.expr.Operand.{Operand}
 use Rattle.cobol_syntax.specs.declared.expr.Operand.TheVariants as operand
-use Rattle.decimal_bytes.specs.declared.form.NumForm.{NumForm}
 use Rattle.data_layout.specs.declared.item.Layout.{Layout}
 use Rattle.operand_kinds.specs.declared.kind.Kind.{Kind}
 use Rattle.operand_kinds.specs.declared.kind.Kind.TheVariants as kind
 use Rattle.operand_kinds.specs.declared.reach.Reach.{Reach}
 use Rattle.operand_kinds.specs.declared.reach.Reach.TheVariants as reaches
 use Rattle.operand_kinds.specs.declared.seen.Seen.{Seen}
-use Rattle.operand_kinds.specs.Kinds.{is_group, is_number, is_edited, is_aligned, is_integer, is_digits, seen}
+use Rattle.operand_kinds.specs.Kinds.{is_group, is_number, is_aligned, is_integer, is_digits, seen}
 use Rattle.operand_uses.specs.declared.fault.UseFault.{UseFault}
 use Rattle.operand_uses.specs.declared.sort.Sort.{Sort}
 use Rattle.operand_uses.specs.declared.sort.Sort.TheVariants as sort

@@ -12,6 +12,8 @@ mod operand;
 mod place;
 mod rule;
 mod sort;
+#[cfg(test)]
+mod tests;
 
 pub use cond::condition_fault;
 pub use expr::{all_numbers, expr_fault, relation_right};

@@ -26,11 +26,7 @@ pub fn operand_fault(layout: &Layout, owner: u32, operand: &Operand) -> Option<U
 }
 
 /// The same, if there is one.
-pub fn operand_if_fault(
-    layout: &Layout,
-    owner: u32,
-    operand: &Option<Operand>,
-) -> Option<UseFault>
+pub fn operand_if_fault(layout: &Layout, owner: u32, operand: &Option<Operand>) -> Option<UseFault>
     requires { IsReady layout.now }
     ensures { result ≡ spec.operand_if_fault layout.now owner operand.now }
 {

@@ -1,5 +1,5 @@
 -- A map of names with one name more.
-use Rattle.std.proofs.Common.{◌≡◌, ℕ, Bool, true, false, cond, List, refl, sym, ap, ◌∙◌, Option, Some, None, if◌then◌else◌}
+use Rattle.std.proofs.Common.{◌≡◌, ℕ, Bool, true, false, cond, List, refl, ap, ◌∙◌, Option, Some, None, if◌then◌else◌}
 use Rattle.std.specs.Option.{is_some}
 use Rattle.std.specs.Ordering.{nat_cmp, is_eq}
 use Rattle.std.specs.Cmp.Lexicographic.{slice_cmp}
@@ -9,7 +9,6 @@ use Rattle.std.specs.BTreeMap.{insert_entry}
 use Rattle.std.proofs.lemmas.Map.Text.{is_eq-slice_cmp}
 use Rattle.std.proofs.lemmas.Slice.Eq.{bytes_eq-Decides}
 use Rattle.data_layout.proofs.InIndex.{lookup-insert, are_alike, are_exact, flipped}
-use Rattle.operand_uses.specs.declared.fault.NameKind.{NameKind}
 use Rattle.program_uses.specs.Names.{wrong_of, once_more}
 
 again : (o : Option Bool) → wrong_of (Some (is_some o)) ≡ once_more (wrong_of o)

@@ -63,7 +63,12 @@ fn refusal(words: &[Word], found: UseFault) -> Refused
 }
 
 /// The first fault of all, by the names of the program.
-fn first_among(layout: &Layout, selects: &NameMap, names: &Names, program: &Program) -> Option<UseFault>
+fn first_among(
+    layout: &Layout,
+    selects: &NameMap,
+    names: &Names,
+    program: &Program,
+) -> Option<UseFault>
     requires { IsReady layout.now }
     ensures { result ≡ spec.first_among layout.now (known selects.now) (known names.now.files) (known names.now.paragraphs) program.now }
 {
@@ -75,7 +80,11 @@ fn first_among(layout: &Layout, selects: &NameMap, names: &Names, program: &Prog
 }
 
 /// The first fault of all.
-fn first_fault(alloc: Global, program: &Program, layout: &Layout) -> Result<Option<UseFault>, Memory>
+fn first_fault(
+    alloc: Global,
+    program: &Program,
+    layout: &Layout,
+) -> Result<Option<UseFault>, Memory>
     requires { IsReady layout.now }
     ensures { IfOk result (λ fault. fault ≡ spec.first_fault layout.now program.now) }
 {

@@ -7,8 +7,8 @@ use crate::names::NameMap;
 use cobol_syntax::{Control, NamePair, Vary};
 use data_layout::Layout;
 use operand_uses::{
-    UseFault, condition_fault, name_fault, operand_fault, place_fault, shape_fault, sooner, sort_of,
-    sort_of_place, worse,
+    UseFault, condition_fault, name_fault, operand_fault, place_fault, shape_fault, sooner,
+    sort_of, sort_of_place, worse,
 };
 
 fn varies_right(layout: &Layout, vary: &Vary) -> bool
@@ -59,7 +59,11 @@ pub(crate) fn control_fault(layout: &Layout, owner: u32, control: &Control) -> O
 }
 
 /// What is wrong with the paragraphs or sections of a PERFORM.
-pub(crate) fn range_fault(paragraphs: &NameMap, owner: u32, range: &Option<NamePair>) -> Option<UseFault>
+pub(crate) fn range_fault(
+    paragraphs: &NameMap,
+    owner: u32,
+    range: &Option<NamePair>,
+) -> Option<UseFault>
     ensures { result ≡ spec.range_fault (known paragraphs.now) owner range.now }
 {
     match range {

@@ -44,7 +44,11 @@ fn status_fault(layout: &Layout, owner: u32, status: &Option<Place>) -> Option<U
 }
 
 /// The first fault in SELECT entries.
-pub(crate) fn selects_fault(layout: &Layout, files: &NameMap, selects: &[Select]) -> Option<UseFault>
+pub(crate) fn selects_fault(
+    layout: &Layout,
+    files: &NameMap,
+    selects: &[Select],
+) -> Option<UseFault>
     requires { IsReady layout.now }
     ensures { result ≡ spec.selects_fault layout.now (known files.now) None selects.now }
 {
@@ -58,7 +62,11 @@ pub(crate) fn selects_fault(layout: &Layout, files: &NameMap, selects: &[Select]
 }
 
 /// The first FD without a SELECT.
-pub(crate) fn files_fault(layout: &Layout, selects: &NameMap, files: &[FileEntry]) -> Option<UseFault>
+pub(crate) fn files_fault(
+    layout: &Layout,
+    selects: &NameMap,
+    files: &[FileEntry],
+) -> Option<UseFault>
     ensures { result ≡ spec.files_fault layout.now (known selects.now) None files.now }
 {
     let mut fault = None;

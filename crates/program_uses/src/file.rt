@@ -102,5 +102,8 @@ pub(crate) fn write_fault(
     let count = operand_if_fault(layout, owner, advance);
     let wrong = wrong_record(layout, layout.find(from_ref(name)));
     let shape = shape_fault(owner, advances_right(layout, advance));
-    sooner(sender, sooner(count, sooner(name_fault(owner, wrong), shape)))
+    sooner(
+        sender,
+        sooner(count, sooner(name_fault(owner, wrong), shape)),
+    )
 }

@@ -10,7 +10,12 @@ use operand_uses::{
 };
 
 /// What is wrong in a MOVE.
-pub(crate) fn move_fault(layout: &Layout, owner: u32, from: &Operand, to: &Place) -> Option<UseFault>
+pub(crate) fn move_fault(
+    layout: &Layout,
+    owner: u32,
+    from: &Operand,
+    to: &Place,
+) -> Option<UseFault>
     requires { IsReady layout.now }
     ensures { result ≡ spec.move_fault layout.now owner from.now to.now }
 {

@@ -1,4 +1,4 @@
-use Rattle.std.proofs.Common.{◌≡◌, drop, None, true}
+use Rattle.std.proofs.Common.{◌≡◌, drop, None}
 use Rattle.program_uses.specs.Names.{known}
 use Rattle.program_uses.specs.Data as spec
 use Rattle.program_uses.proofs.data.files_fault.Given as goal

@@ -1,5 +1,4 @@
-use Rattle.std.proofs.Common.{◌≡◌, drop, None, true}
-use Rattle.program_uses.specs.Names.{known}
+use Rattle.std.proofs.Common.{◌≡◌, drop, true}
 use Rattle.program_uses.specs.Data as spec
 use Rattle.program_uses.proofs.data.ranges_right.Given as goal
 
