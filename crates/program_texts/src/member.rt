@@ -48,6 +48,14 @@ impl Drop for Members {
 }
 
 impl Members {
+    /// The programs and their layouts.
+    pub fn into_parts(self) -> (List<Program>, List<Layout>)
+        ensures { result ≡ (self.programs, self.layouts) }
+    {
+        let Members { programs, layouts } = self;
+        (programs, layouts)
+    }
+
     fn add(&mut self, member: Member) -> Result<(), Memory>
         ensures programs { OnOk result (self.new.programs ≡ self.old.programs ++ member.program ∷ []) }
         ensures layouts { OnOk result (self.new.layouts ≡ self.old.layouts ++ member.layout ∷ []) }
