@@ -3,6 +3,8 @@
 
 mod fault;
 mod gathering;
+#[cfg(test)]
+mod tests;
 
 
 
