@@ -1,0 +1,2 @@
+pub mod Portfolios
+pub mod Sound

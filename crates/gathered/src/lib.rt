@@ -1,0 +1,12 @@
+//! Portfolios made of their texts: the programs with their layouts, and the external files.
+#![tactic(auto)]
+
+mod fault;
+mod gathering;
+#[cfg(test)]
+mod tests;
+
+
+
+pub use gathering::{Gathered, assemble};
+pub use fault::GatherFault;

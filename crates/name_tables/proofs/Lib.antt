@@ -1,0 +1,2 @@
+mod InNames
+mod Least
