@@ -1,0 +1,4 @@
+pub mod Digit
+pub mod HalfBytes
+pub mod Part
+pub mod Text
