@@ -3,7 +3,7 @@ use Rattle.std.proofs.Common.{◌≡◌, ℕ, zero, suc, ◌+◌, ◌*◌, ◌�
 use Rattle.std.proofs.lemmas.List.{drop-drop, length-take-le, take-append-drop, take_at, drop_at}
 use Rattle.year_image.specs.Piece.{Piece, size, grown_size}
 use Rattle.year_image.specs.Image.{image}
-use Rattle.year_image.specs.Span.{part}
+use Rattle.byte_lists.specs.Part.{part}
 use Rattle.year_image.specs.Text.{YearsFit}
 use Rattle.year_image.proofs.Lengths.{length-image}
 use Rattle.year_image.proofs.Injective.{image-injective}
