@@ -1,5 +1,5 @@
 -- Items and programs for examples.
-use Rattle.std.proofs.Common.{ℕ, ◌+◌, false, List, [], ◌∷◌, Option, Some, None}
+use Rattle.std.proofs.Common.{ℕ, ◌+◌, true, false, List, [], ◌∷◌, Option, Some, None}
 use Rattle.std.specs.Prelude.{map, pos, slice_index_or}
 use Rattle.program_meaning.specs.Tree.{Name, StatementId, Subscript, Part, Place, Literal, Operand, At, Number, Statement, Stated, Statements, Nil, Cons, Form, Paragraph}
 use Rattle.program_meaning.specs.Number.{NumForm, Display, Trailing}
@@ -14,6 +14,9 @@ use Rattle.program_meaning.specs.Portfolio.{Source, externals, programs_of}
 
 abbrev pub unsigned : ℕ → NumForm
 unsigned digits = record { digits = digits; scale = 0; signed = false; sign = Trailing }
+
+abbrev pub signed : ℕ → NumForm
+signed digits = record { digits = digits; scale = 0; signed = true; sign = Trailing }
 
 -- an item that is an area of its own
 abbrev pub text_item : Name → ℕ → ℕ → Option Operand → Item
@@ -79,7 +82,7 @@ after n p files = run p some_day n (initial p files [])
 abbrev pub area_after : ℕ → ℕ → Program → List Disk → List ℕ
 area_after a n p files = slice_index_or (world_of (after n p files)).storage a []
 
--- entries: a group, an elementary item, one with a VALUE, and a condition-name
+-- entries: a group, an elementary item, one with REDEFINES, one with a VALUE, and a condition-name
 abbrev pub group : ℕ → Name → Entry
 group level name =
     record { level = level; name = name; redefines = false; occurs = None; picture = None; usage = Display; sign = Trailing; value = None; values = [] }
@@ -87,6 +90,10 @@ group level name =
 abbrev pub elementary : ℕ → Name → Picture → Entry
 elementary level name picture =
     record { level = level; name = name; redefines = false; occurs = None; picture = Some picture; usage = Display; sign = Trailing; value = None; values = [] }
+
+abbrev pub redefining : ℕ → Name → Picture → Entry
+redefining level name picture =
+    record { level = level; name = name; redefines = true; occurs = None; picture = Some picture; usage = Display; sign = Trailing; value = None; values = [] }
 
 abbrev pub valued : ℕ → Name → Picture → Operand → Entry
 valued level name picture value =

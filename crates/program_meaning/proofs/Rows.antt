@@ -12,7 +12,7 @@ use Rattle.program_meaning.specs.State.{Program}
 use Rattle.program_meaning.specs.Files.{Disk, Closed}
 use Rattle.program_meaning.specs.Job.{JobState, Over, End, Ended, Failed, job_after, ends_of}
 use Rattle.program_meaning.specs.Job as job
-use Rattle.program_meaning.proofs.Examples.{unsigned, text_item, number_item, place, cut_place, at_place, whole_number, stated, numbered, paragraph, some_day, area_after}
+use Rattle.program_meaning.proofs.Examples.{unsigned, signed, text_item, number_item, place, cut_place, at_place, whole_number, stated, numbered, paragraph, some_day, area_after}
 
 abbrev n_name : Name
 n_name = 78 ∷ []
@@ -149,9 +149,6 @@ pub no_file_status : area_after 2 1 (reading (Some (place x_name))) (missing ∷
 no_file_status = refl
 
 -- numbers in bytes: 12 3D is -123, 12 3E is none, and -12 is written 31 72
-abbrev signed : ℕ → NumForm
-signed digits = record { digits = digits; scale = 0; signed = true; sign = Trailing }
-
 pub packed_value : number_in Packed (signed 3) (18 ∷ 61 ∷ []) ≡ Some (record { minus = true; digits = 1 ∷ 2 ∷ 3 ∷ []; scale = 0 })
 packed_value = refl
 
