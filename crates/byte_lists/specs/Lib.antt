@@ -2,3 +2,4 @@ pub mod Digit
 pub mod HalfBytes
 pub mod Part
 pub mod Text
+pub mod Records
