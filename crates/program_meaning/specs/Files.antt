@@ -1,5 +1,5 @@
 -- Sequential files: what they hold, how they are open, and the status of each call.
-use Rattle.std.specs.Prelude.{ℕ, Bool, true, false, List, [], ◌∷◌, ◌++◌, Option, Some, None}
+use Rattle.std.specs.Prelude.{ℕ, Bool, true, false, List, [], ◌∷◌, ◌++◌, slice_index_or, Option, Some, None}
 use Rattle.byte_lists.specs.Text.{copied}
 use Rattle.program_meaning.specs.Tree.{Mode, Input, Output, Extend}
 
@@ -81,6 +81,14 @@ write_by d bs Writing = done 0 (with_records d (records_in d.records ++ copied d
 
 abbrev pub write_file : Disk → List ℕ → Done
 write_file d bs = write_by d bs d.opening
+
+-- in place of a file that isn't there; a sound program asks for none
+abbrev pub no_disk : Disk
+no_disk = record { length = 0; records = None; opening = Closed }
+
+-- a file by its number
+abbrev pub disk_at : List Disk → ℕ → Disk
+disk_at ds file = slice_index_or ds file no_disk
 
 -- all files closed
 abbrev pub closed : List Disk → List Disk

@@ -8,7 +8,7 @@ use Rattle.program_meaning.specs.Moves.{move, move_group, move_record, show_all}
 use Rattle.program_meaning.specs.Arithmetic.{operand_value, compute}
 use Rattle.program_meaning.specs.Compare.{test}
 use Rattle.program_meaning.specs.Start.{start}
-use Rattle.program_meaning.specs.Files.{Disk, Done, Closed, open_file, close_file, read_file, write_file}
+use Rattle.program_meaning.specs.Files.{Disk, Done, disk_at, open_file, close_file, read_file, write_file}
 use Rattle.program_meaning.specs.State.{Channel, Program, Loop, Task, Do, Turn, Set, Advance, Test, Point, Frame, Shown, World, State, Running, Stopped, Faulted, before, point, on, from_paragraph, after_range, at_front}
 
 -- the day of a run: the last two digits of its year, its month and its day
@@ -48,10 +48,6 @@ abbrev pub attempt : {A : Type 0} → StatementId → World → Answer A → (A 
 attempt id w (Gives a) f = f a
 attempt id w (Fails e) f = Faulted e id w
 
--- in place of a file that isn't there; a sound program asks for none
-abbrev pub no_disk : Disk
-no_disk = record { length = 0; records = None; opening = Closed }
-
 abbrev pub channel_of : Name → List Channel → Option Channel
 channel_of n [] = None
 channel_of n (c ∷ cs) = cond (same_name n c.name) (Some c) (channel_of n cs)
@@ -81,7 +77,7 @@ abbrev pub record_span : World → Channel → Span
 record_span w c = record { area = c.area; start = 0; count = length (slice_index_or w.storage c.area []) }
 
 abbrev pub disk_of : World → Channel → Disk
-disk_of w c = slice_index_or w.files c.file no_disk
+disk_of w c = disk_at w.files c.file
 
 abbrev pub after_call : World → Channel → Done → World
 after_call w c d = with_files w (slice_set w.files c.file d.disk)
