@@ -24,12 +24,12 @@ opening n bs state.Closed = Closed
 opening n bs (state.Reading next ended) = Reading (records_of n (drop next bs)) ended
 opening n bs state.Writing = Writing
 
+-- a file of records of this length, these bytes, if it is there, open in this way
+abbrev pub disk_of : ℕ → Option (List ℕ) → OpenState → Disk
+disk_of n bytes s = record { length = n; records = option_map (records_of n) bytes; opening = opening n (bytes_in bytes) s }
+
 abbrev pub disk : HeldFile → Disk
-disk f = record {
-  length = f.size;
-  records = option_map (records_of f.size) f.bytes;
-  opening = opening f.size (bytes_in f.bytes) f.state;
-}
+disk f = disk_of f.size f.bytes f.state
 
 abbrev pub disks : Store → List Disk
 disks store = map disk store.files.items

@@ -1,4 +1,4 @@
-ghost use Rattle.std.specs.Prelude.{◌≡◌, ◌+◌, ◌%◌, ◌<◌, ◌≤◌, [], ◌∷◌, ◌++◌, length, drop, IfOk, IfErr, IfSome, OnOk, OnErr, OnNone};
+ghost use Rattle.std.specs.Prelude.{◌≡◌, ◌+◌, ◌%◌, ◌^◌, ◌<◌, ◌≤◌, [], ◌∷◌, ◌++◌, length, drop, IfOk, IfErr, IfSome, OnOk, OnErr, IfNone};
 ghost use Rattle.byte_lists.specs.Records.{records_of};
 ghost use Rattle.byte_lists.specs.Text.{copied};
 ghost use Rattle.seq_files.specs.Bytes.{bytes_in};
@@ -23,6 +23,7 @@ pub(crate) struct HeldFile {
     bytes: Option<Bytes>,
     state: OpenState,
     ghost positive: { 0 < size },
+    ghost small: { size < 2 ^ 32 },
     ghost whole: { length (bytes_in bytes) % size ≡ 0 },
 }
 
@@ -45,22 +46,15 @@ impl HeldFile {
     ghost use Rattle.seq_files.specs.declared.held.OpenState.TheVariants as state;
 
     /// A file that isn't there.
-    pub(crate) fn missing(size: usize) -> HeldFile
+    pub(crate) fn missing(size: u32) -> HeldFile
         requires positive { 0 < size }
         ensures { disk result ≡ missing size }
     {
         HeldFile {
-            size,
+            size: size as usize,
             bytes: None,
             state: OpenState::Closed,
         }
-    }
-
-    /// How many bytes a record has.
-    pub(crate) fn size(&self) -> usize
-        ensures { result ≡ (disk self.now).length }
-    {
-        self.size
     }
 
     /// The bytes of all records.
@@ -82,7 +76,7 @@ impl HeldFile {
     }
 
     /// Holds these bytes from now on, unless some are left over, whose number it answers.
-    pub(crate) fn set(&mut self, alloc: Global, bytes: &[u8]) -> Result<Result<(), usize>, Memory>
+    pub(crate) fn set(&mut self, alloc: Global, bytes: &[u8]) -> Result<Result<(), u32>, Memory>
         requires closed { (disk self.old).opening ≡ Closed }
         ensures set { IfOk result (λ set. OnOk set (disk self.new ≡ filled_disk self.old.size bytes.now)) }
         ensures whole { IfOk result (λ set. OnOk set (length bytes.now % self.old.size ≡ 0)) }
@@ -92,7 +86,7 @@ impl HeldFile {
     {
         let left = bytes.len() % self.size;
         if left > 0 {
-            return Ok(Err(left));
+            return Ok(Err(left as u32));
         }
         let copy = Vec::from_slice(alloc, bytes)?;
         self.bytes = Some(List::from_vec(copy));
@@ -243,10 +237,10 @@ impl HeldFile {
 /// The record at an offset, if a whole one is left.
 fn record_at(bytes: &[u8], next: usize, size: usize) -> Option<&[u8]>
     requires positive { 0 < size }
-    ensures found { IfSome result (λ record. records_of size (drop next bytes.now) ≡ record.now ∷ records_of size (drop (next + size) bytes.now)) }
-    ensures within { IfSome result (λ record. next + size ≤ length bytes.now) }
-    ensures size { IfSome result (λ record. length record.now ≡ size) }
-    ensures end { OnNone result (records_of size (drop next bytes.now) ≡ []) }
+    ensures found { IfSome result (λ row. records_of size (drop next bytes.now) ≡ row.now ∷ records_of size (drop (next + size) bytes.now)) }
+    ensures within { IfSome result (λ row. next + size ≤ length bytes.now) }
+    ensures size { IfSome result (λ row. length row.now ≡ size) }
+    ensures end { IfNone result (records_of size (drop next bytes.now) ≡ []) }
 {
     if bytes.len().saturating_sub(next) < size {
         return None;
@@ -260,7 +254,9 @@ fn filled_record(alloc: Global, record: &[u8], size: usize) -> Result<Bytes, Mem
     ensures filled { IfOk result (λ row. row ≡ copied size record.now) }
     ensures size { IfOk result (λ row. length row ≡ size) }
 {
-    let mut row = vec![in alloc; b' '; size]?;
-    row[..record.len()].copy_from_slice(record);
-    Ok(List::from_vec(row))
+    let spaces = vec![in alloc; b' '; size - record.len()]?;
+    let mut row = List::new(alloc);
+    row.append(record)?;
+    row.append(spaces.as_slice())?;
+    Ok(row)
 }

@@ -34,7 +34,7 @@ impl Store {
     {
         let mut held = Vec::with_capacity(alloc, files.len())?;
         for i in 0..files.len() {
-            held.push(HeldFile::missing(files[i].length as usize))?;
+            held.push(HeldFile::missing(files[i].length))?;
         }
         Ok(Store { alloc, files: held })
     }
@@ -51,10 +51,7 @@ impl Store {
         ensures err { OnErr result (disks self.new ≡ disks self.old) }
     {
         let alloc = self.alloc;
-        match self.files[file as usize].set(alloc, bytes)? {
-            Ok(()) => Ok(Ok(())),
-            Err(left) => Ok(Err(left as u32)),
-        }
+        self.files[file as usize].set(alloc, bytes)
     }
 
     /// The bytes of a file's records, one after the other, if it is there.
