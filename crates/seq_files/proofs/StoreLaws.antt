@@ -48,5 +48,5 @@ closed-next files ds i now new e h same before is =
 pub closed-all : (ds : List Disk) (n : ℕ) → n ≡ length ds → closed (take n ds) ++ drop n ds ≡ closed ds
 closed-all ds n e =
     ap (λ (l : List Disk). closed l ++ drop n ds) (take_all n ds (omega (arith, e)))
-    ∙ ap (λ (l : List Disk). closed ds ++ l) (drop_of_length-le n ds (omega (arith, e)))
+    ∙ ap (λ (l : List Disk). closed ds ++ l) (drop_of_length-le ds (omega (arith, e)))
     ∙ append-nil (closed ds)
