@@ -8,7 +8,7 @@ use Rattle.file_convert.specs.declared.cut.Cut.{Cut}
 use Rattle.file_convert.specs.declared.cut.CutKind.TheVariants as kinds
 use Rattle.std.proofs.lemmas.List.{drop_more, drop-drop, length-take-le, take-append-drop, take_all, drop_all}
 use Rattle.year_image.specs.Image.{grow, image}
-use Rattle.year_image.specs.Span.{part, with_part}
+use Rattle.byte_lists.specs.Part.{part, with_part}
 use Rattle.year_image.proofs.Lengths.{length-grow}
 use Rattle.year_image.proofs.Spans.{image-append}
 use Rattle.year_image.proofs.NumberImages.{image-keep}

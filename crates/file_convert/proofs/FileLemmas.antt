@@ -10,8 +10,10 @@ use Rattle.shelf.specs.Contents.{Files, bytes_of, appended, MayHaveAppended}
 use Rattle.shelf.specs.declared.errors.ShelfErr.{ShelfErr}
 use Rattle.shelf.specs.declared.errors.ShelfErr.TheVariants as shelf_errors
 use Rattle.year_image.specs.Image.{image, IsTame}
-use Rattle.year_image.specs.Files.{records, images, AreTame}
-use Rattle.year_image.proofs.FileLemmas.{records-append, records-more, images-append, tame-both}
+use Rattle.byte_lists.specs.Records.{records}
+use Rattle.year_image.specs.Files.{images, AreTame}
+use Rattle.byte_lists.proofs.RecordLaws.{records-append, records-more}
+use Rattle.year_image.proofs.FileLemmas.{images-append, tame-both}
 use Rattle.file_convert.specs.Cuts.{pieces}
 use Rattle.file_convert.specs.Files.{record_at, IsTameUpTo, IsTameFile, IsNext, front_image, file_image, with_front, with_image, HasSize}
 use Rattle.file_convert.specs.Faults.{HasFaultAfter, HasConvertFault, HasLeft, IsFrontOf, MayHaveBegun, fault_of}

@@ -5,8 +5,10 @@ use Rattle.std.proofs.lemmas.Bool.{cases_lt}
 use Rattle.std.proofs.lemmas.Nat.{le-div, div-mul-add}
 use Rattle.std.proofs.lemmas.List.{length-take-le}
 use Rattle.year_image.specs.Image.{IsTame}
-use Rattle.year_image.specs.Files.{records, AreTame}
-use Rattle.year_image.proofs.FileLemmas.{records-append, tame-back}
+use Rattle.byte_lists.specs.Records.{records}
+use Rattle.year_image.specs.Files.{AreTame}
+use Rattle.byte_lists.proofs.RecordLaws.{records-append}
+use Rattle.year_image.proofs.FileLemmas.{tame-back}
 use Rattle.file_convert.specs.Cuts.{pieces, first_untame, IsInOrder}
 use Rattle.file_convert.specs.Files.{record_at, IsTameUpTo, IsTameFile}
 use Rattle.file_convert.specs.Faults.{HasConvertFault}

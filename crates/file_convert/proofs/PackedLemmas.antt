@@ -4,11 +4,12 @@ use Rattle.std.specs.Prelude.{slice_index, ◌==◌, nat_le}
 use Rattle.std.proofs.Math.Bool.{or-false}
 use Rattle.std.proofs.lemmas.Bool.{and_parts, and_from, and_left, and_right, le-leb, lt-leb, ne_eqb}
 use Rattle.std.proofs.lemmas.List.{get_or-drop, take_more, take_rest, length-take-le}
-use Rattle.year_image.specs.Digit.{is_digit, all_digits}
-use Rattle.year_image.specs.Packing.{halves, joined, is_packed, all_equal, year_at, with_century, grow_packed, packed_digits, packed_sign}
+use Rattle.byte_lists.specs.Digit.{is_digit, all_digits}
+use Rattle.byte_lists.specs.HalfBytes.{halves, joined}
+use Rattle.year_image.specs.Packing.{is_packed, all_equal, year_at, with_century, grow_packed, packed_digits, packed_sign}
 use Rattle.year_image.specs.Image.{above, century, two_digits, two_digit_value, doubled, tame_pair, tame_packed, grow}
 use Rattle.year_image.specs.Piece.{Pair}
-use Rattle.year_image.specs.Span.{with_part}
+use Rattle.byte_lists.specs.Part.{with_part}
 use Rattle.year_image.proofs.Numbers.{all_digits-append}
 use Rattle.file_convert.proofs.Parts.{half-even, half-odd, with_part-with_part, century-even, century-odd}
 

@@ -5,7 +5,7 @@ use Rattle.std.proofs.lemmas.Bool.{cases_Bool}
 use Rattle.std.proofs.lemmas.List.{drop-drop, length-take-le, take-append-drop}
 use Rattle.year_image.specs.Piece.{Keep, width}
 use Rattle.year_image.specs.Image.{tame, IsTame}
-use Rattle.year_image.specs.Span.{part}
+use Rattle.byte_lists.specs.Part.{part}
 use Rattle.year_image.proofs.Spans.{tame-append}
 use Rattle.year_image.proofs.NumberImages.{size-keep, tame-keep, tame-join}
 use Rattle.file_convert.specs.declared.cut.Cut.{Cut}

@@ -2,7 +2,7 @@
 use Rattle.std.specs.Prelude.{ℕ, ◌+◌, ◌-◌, ◌≤◌, Bool, cond, List, [], ◌∷◌, ◌++◌, Option, Some, None, replicate}
 use Rattle.year_image.specs.Piece.{Piece, Keep, Pair, Packed, width}
 use Rattle.year_image.specs.Image.{tame}
-use Rattle.year_image.specs.Span.{part}
+use Rattle.byte_lists.specs.Part.{part}
 use Rattle.file_convert.specs.declared.cut.Cut.{Cut}
 use Rattle.file_convert.specs.declared.cut.Cuts.{Cuts}
 use Rattle.file_convert.specs.declared.cut.CutKind.{CutKind}

@@ -3,9 +3,10 @@ use Rattle.std.specs.Prelude.{◌≡◌, ℕ, ◌+◌, ◌*◌, ◌/◌, ◌≤�
 use Rattle.std.specs.Option.{option_map}
 use Rattle.std.specs.FinMap.{get, insert}
 use Rattle.shelf.specs.Contents.{Files, bytes_of}
-use Rattle.year_image.specs.Files.{records, images, AreTame}
+use Rattle.byte_lists.specs.Records.{records}
+use Rattle.year_image.specs.Files.{images, AreTame}
 use Rattle.year_image.specs.Image.{image, IsTame}
-use Rattle.year_image.specs.Span.{part}
+use Rattle.byte_lists.specs.Part.{part}
 use Rattle.file_convert.specs.Cuts.{pieces}
 use Rattle.file_convert.specs.declared.cut.Cuts.{Cuts}
 

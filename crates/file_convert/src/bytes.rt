@@ -1,6 +1,6 @@
 ghost use Rattle.std.specs.Prelude.{◌≡◌, ◌+◌, ◌<◌, ◌≤◌, length, slice_index};
 ghost use Rattle.year_image.specs.Packing.{all_equal};
-ghost use Rattle.year_image.specs.Span.{with_part};
+ghost use Rattle.byte_lists.specs.Part.{with_part};
 
 /// Writes bytes at a place.
 pub(crate) fn copy_at(into: &mut [u8], at: usize, bytes: &[u8])

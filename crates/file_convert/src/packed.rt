@@ -1,7 +1,8 @@
 ghost use Rattle.std.specs.Prelude.{◌≡◌, ◌+◌, ◌*◌, ◌/◌, ◌%◌, ◌==◌, ◌&&◌, ◌||◌, ◌<◌, ◌≤◌, length, slice_index};
-ghost use Rattle.year_image.specs.Packing.{halves, is_packed, grow_packed};
+ghost use Rattle.byte_lists.specs.HalfBytes.{halves};
+ghost use Rattle.year_image.specs.Packing.{is_packed, grow_packed};
 ghost use Rattle.year_image.specs.Image.{tame_packed};
-ghost use Rattle.year_image.specs.Span.{with_part};
+ghost use Rattle.byte_lists.specs.Part.{with_part};
 
 use crate::bytes::{copy_at, is_one_byte};
 use crate::pair::is_above;

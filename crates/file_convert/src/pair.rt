@@ -1,8 +1,8 @@
 ghost use Rattle.std.specs.Prelude.{◌≡◌, ◌+◌, ◌≤◌, length, None};
-ghost use Rattle.year_image.specs.Digit.{is_digit};
+ghost use Rattle.byte_lists.specs.Digit.{is_digit};
 ghost use Rattle.year_image.specs.Image.{above, grow, tame_pair, two_digits, doubled};
 ghost use Rattle.year_image.specs.Piece.{Pair};
-ghost use Rattle.year_image.specs.Span.{with_part};
+ghost use Rattle.byte_lists.specs.Part.{with_part};
 
 use crate::bytes::copy_at;
 

@@ -2,7 +2,7 @@ ghost use Rattle.std.specs.Prelude.{◌≡◌, ◌↔◌, IsTrue, is_ok, ◌+◌
 ghost use Rattle.std.specs.Option.{option_map};
 ghost use Rattle.year_image.specs.Piece.{width, grown_width, grown_size};
 ghost use Rattle.year_image.specs.Image.{IsTame, grow, image, tame};
-ghost use Rattle.year_image.specs.Span.{part, with_part};
+ghost use Rattle.byte_lists.specs.Part.{part, with_part};
 ghost use Rattle.file_convert.specs.Cuts.{piece_of, pieces, covered, is_tame_at, first_untame, IsFitting, IsInOrder};
 
 use crate::bytes::copy_at;

@@ -4,7 +4,7 @@ use Rattle.std.specs.Prelude.{IsTrue, nat_le}
 use Rattle.std.proofs.lemmas.Bool.{and_from, le-leb}
 use Rattle.std.proofs.lemmas.List.{length-map}
 use Rattle.year_image.specs.Piece.{Piece, Pair, size, grown_size, AllText}
-use Rattle.year_image.specs.Digit.{is_digit, all_digits, number, decimal, codes, number_text}
+use Rattle.byte_lists.specs.Digit.{is_digit, all_digits, number, decimal, codes, number_text}
 use Rattle.year_image.specs.Image.{image}
 use Rattle.year_image.specs.Lined.{Lined, CutOff}
 use Rattle.year_image.proofs.Numbers.{decimal-aligned}

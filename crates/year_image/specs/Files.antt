@@ -1,12 +1,7 @@
 -- Files of records that all have the same pieces.
-use Rattle.std.specs.Prelude.{ℕ, zero, suc, List, [], ◌∷◌, ◌++◌, take, drop}
+use Rattle.std.specs.Prelude.{ℕ, List, [], ◌∷◌, ◌++◌}
 use Rattle.year_image.specs.Piece.{Piece}
 use Rattle.year_image.specs.Image.{image, IsTame}
-
--- the first records of a file, each of this length
-abbrev pub records : (size count : ℕ) → List ℕ → List (List ℕ)
-records size zero bs = []
-records size (suc count) bs = take size bs ∷ records size count (drop size bs)
 
 -- the images of records, one after the other
 abbrev pub images : List Piece → List (List ℕ) → List ℕ

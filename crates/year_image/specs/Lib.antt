@@ -1,4 +1,3 @@
-pub mod Digit
 pub mod Piece
 pub mod Packing
 pub mod Image

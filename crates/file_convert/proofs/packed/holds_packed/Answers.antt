@@ -1,7 +1,7 @@
 use Rattle.std.proofs.Common.{◌≡◌, ℕ, ◌+◌, ◌*◌, ◌/◌, ◌%◌, ◌<◌, ◌&&◌, ◌||◌, slice_index, take, true, sym, ap, ◌∙◌, subst, arith}
 use Rattle.std.specs.Prelude.{◌==◌}
-use Rattle.year_image.specs.Digit.{all_digits}
-use Rattle.year_image.specs.Packing.{halves}
+use Rattle.byte_lists.specs.Digit.{all_digits}
+use Rattle.byte_lists.specs.HalfBytes.{halves}
 use Rattle.year_image.proofs.Lengths.{length-halves}
 use Rattle.file_convert.proofs.PackedLemmas.{not_packed_at, digits_more, packed_by_ends}
 use Rattle.file_convert.proofs.packed.holds_packed.Goals as goal

@@ -1,6 +1,6 @@
 use Rattle.std.proofs.Common.{◌≡◌, true, take}
-use Rattle.year_image.specs.Digit.{all_digits}
-use Rattle.year_image.specs.Packing.{halves}
+use Rattle.byte_lists.specs.Digit.{all_digits}
+use Rattle.byte_lists.specs.HalfBytes.{halves}
 use Rattle.file_convert.proofs.packed.holds_packed.Given as goal
 
 abbrev pub invariant-loop-at : goal.invariant-loop-at

@@ -1,5 +1,6 @@
 use Rattle.std.proofs.Common.{◌≡◌, ◌+◌, ◌*◌, drop, sym, ap, ◌∙◌, arith}
-use Rattle.year_image.specs.Packing.{halves, year_at}
+use Rattle.byte_lists.specs.HalfBytes.{halves}
+use Rattle.year_image.specs.Packing.{year_at}
 use Rattle.year_image.specs.Image.{above, two_digit_value}
 use Rattle.file_convert.proofs.PackedLemmas.{packed_is_tame_other, packed_is_tame_yes, packed_is_tame_below, packed_value}
 use Rattle.file_convert.proofs.packed.packed_is_tame.Goals as goal

@@ -1,5 +1,5 @@
 use Rattle.std.proofs.Common.{sym, ap, ◌∙◌}
-use Rattle.year_image.specs.Span.{with_part}
+use Rattle.byte_lists.specs.Part.{with_part}
 use Rattle.file_convert.proofs.PackedLemmas.{grow_digits, grow_other}
 use Rattle.file_convert.proofs.pair.write_pair.Goals as goal
 

@@ -2,7 +2,7 @@ use Rattle.std.proofs.Common.{◌≡◌, ℕ, ◌+◌, ◌-◌, List, length, dr
 use Rattle.std.proofs.lemmas.List.{length-take-le}
 use Rattle.year_image.specs.Piece.{width, grown_width}
 use Rattle.year_image.specs.Image.{grow}
-use Rattle.year_image.specs.Span.{part, with_part}
+use Rattle.byte_lists.specs.Part.{part, with_part}
 use Rattle.year_image.proofs.Lengths.{length-grow}
 use Rattle.file_convert.specs.Cuts.{piece_of}
 use Rattle.file_convert.proofs.Parts.{with_part-with_part}

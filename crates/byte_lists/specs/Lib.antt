@@ -1,0 +1,5 @@
+pub mod Digit
+pub mod HalfBytes
+pub mod Part
+pub mod Text
+pub mod Records

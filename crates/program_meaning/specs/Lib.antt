@@ -1,0 +1,16 @@
+pub mod Answer
+pub mod Tree
+pub mod Number
+pub mod Kind
+pub mod Layout
+pub mod Storage
+pub mod Moves
+pub mod Arithmetic
+pub mod Compare
+pub mod Start
+pub mod Files
+pub mod State
+pub mod Step
+pub mod Job
+pub mod Entries
+pub mod Portfolio
