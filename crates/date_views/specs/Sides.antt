@@ -10,7 +10,7 @@ use Rattle.operand_kinds.specs.declared.kind.Kind.TheVariants as kind
 use Rattle.operand_kinds.specs.declared.reach.Reach.{Reach}
 use Rattle.operand_kinds.specs.declared.reach.Reach.TheVariants as reaches
 use Rattle.operand_kinds.specs.declared.seen.Seen.{Seen}
-use Rattle.operand_kinds.specs.Kinds.{seen}
+use Rattle.operand_kinds.specs.Kinds.{seen, kind_of_item}
 use Rattle.date_views.specs.declared.side.Field.{Field}
 use Rattle.date_views.specs.declared.side.Side.{Side}
 use Rattle.date_views.specs.declared.side.Side.TheVariants as sides
@@ -42,6 +42,10 @@ side_seen layout (Some seen) = side_in seen.kind seen.reach (slice_get layout.it
 -- the side that a place is
 abbrev pub side_of : Layout → Place → Option Side
 side_of layout place = side_seen layout (seen layout place)
+
+-- a whole item
+abbrev pub whole_side : Item → Option Side
+whole_side item = side_at (kind_of_item item) (runs_of item.picture) item.span (reaches.Fixed 0 item.span.length)
 
 -- a record area as a group
 abbrev pub area_side : Span → Side

@@ -7,7 +7,7 @@ ghost use Rattle.operand_kinds.specs.declared.reach.Reach.TheVariants as reaches
 use crate::view::{digits_of, is_placed, runs_of, view_of};
 use cobol_syntax::Place;
 use data_layout::{Item, Layout};
-use operand_kinds::{Kind, Reach, Seen, see};
+use operand_kinds::{Kind, Reach, Seen, kind_of_item, see};
 use std::alloc::Global;
 use y2k_base::{List, Memory, Run, Span};
 use year_labels::View;
@@ -148,6 +148,18 @@ fn field_of(alloc: Global, kind: Kind, runs: &[Run], span: Span) -> Result<Field
         digits: digits_of(kind, span.length),
         view,
     })
+}
+
+/// A whole item in its first occurrence, or `None` where its bytes leave what 32 bits can address.
+pub fn whole_side(alloc: Global, item: &Item) -> Result<Option<Side>, Memory>
+    ensures { IfOk result (λ side. side ≡ spec.whole_side item.now) }
+{
+    let reach = Reach::Fixed {
+        start: 0,
+        length: item.span.length,
+    };
+    let side = side_at(alloc, kind_of_item(item), item, reach)?;
+    Ok(side)
 }
 
 /// A record area, which READ and WRITE move as a group.

@@ -1,0 +1,9 @@
+use Rattle.std.proofs.Common.{◌≡◌, ◌++◌, length}
+use Rattle.date_types.specs.Tables as spec
+use Rattle.date_types.proofs.tables.add_files.Given as goal
+
+abbrev pub invariant-loop-rest : goal.invariant-loop-rest
+invariant-loop-rest l = l.rules ++ spec.file_rules l.portfolio l.rest ≡ l.fn.rules ++ spec.file_rules l.portfolio l.files
+
+abbrev pub decreases-loop-rest : goal.decreases-loop-rest
+decreases-loop-rest l = length l.rest

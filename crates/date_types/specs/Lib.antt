@@ -1,0 +1,4 @@
+pub mod Tables
+pub mod Pictures
+pub mod Programs
+pub mod Whole
