@@ -44,7 +44,7 @@ fn add_run(places: &mut List<bool>, run: Run) -> Result<(), Memory>
 }
 
 /// For each byte of a picture, whether it is a digit.
-fn digit_places(alloc: Global, runs: &[Run]) -> Result<List<bool>, Memory>
+pub fn digit_places(alloc: Global, runs: &[Run]) -> Result<List<bool>, Memory>
     ensures { IfOk result (λ places. places ≡ spec.digit_places runs.now) }
 {
     let mut places = List::new(alloc);
@@ -170,7 +170,7 @@ pub(crate) fn each_byte(alloc: Global, span: Span) -> Result<View, Memory>
     Ok(over(alloc, span, powers))
 }
 
-pub(crate) fn runs_of(picture: &Option<Picture>) -> &[Run]
+pub fn runs_of(picture: &Option<Picture>) -> &[Run]
     ensures { result.now ≡ spec.runs_of picture.now }
 {
     match picture {
