@@ -3,3 +3,4 @@ pub mod Alike
 pub mod Pictures
 pub mod Programs
 pub mod Whole
+pub mod Laws

@@ -2,6 +2,7 @@ ghost use Rattle.std.specs.Prelude.{◌≡◌, IfOk, All};
 ghost use Rattle.std.specs.List.{AllByRecursion};
 ghost use Rattle.data_layout.specs.Index.{IsReady};
 ghost use Rattle.year_labels.specs.Forms.{IsFit};
+ghost use Rattle.date_types.specs.Laws.{AreTablesAlike, AreFilesAlike};
 ghost use Rattle.date_types.specs.Whole as spec;
 
 use crate::fits::are_fit;
@@ -17,6 +18,17 @@ use year_labels::RuleInst;
 /// program in order, those of its files, and those of items with one PICTURE word. A span that 32 bits can't address is want
 /// of memory.
 pub fn rules_of(alloc: Global, portfolio: &Portfolio) -> Result<List<RuleInst>, Memory>
+    requires { AllByRecursion IsReady portfolio.now.layouts }
+    ensures rules { IfOk result (λ rules. rules ≡ spec.rules portfolio.now) }
+    ensures fit { IfOk result (All (λ r. IsFit r.form)) }
+    ensures tables { IfOk result (AreTablesAlike portfolio.now) }
+    ensures files { IfOk result (AreFilesAlike portfolio.now) }
+{
+    let rules = all_rules(alloc, portfolio)?;
+    Ok(rules)
+}
+
+fn all_rules(alloc: Global, portfolio: &Portfolio) -> Result<List<RuleInst>, Memory>
     requires { AllByRecursion IsReady portfolio.now.layouts }
     ensures rules { IfOk result (λ rules. rules ≡ spec.rules portfolio.now) }
     ensures fit { IfOk result (All (λ r. IsFit r.form)) }

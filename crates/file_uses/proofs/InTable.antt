@@ -129,7 +129,7 @@ pub keys_more : {K : Type 0} (bytes : K → List ℕ) (ks : List K) (k : K) (fil
     → map bytes (cond (list_any (λ (x : K). bytes_eq (bytes k) (bytes x)) ks) ks (ks ++ k ∷ [])) ≡ map file_name (files ++ file ∷ [])
 keys_more {K} bytes ks k files file h e none =
     let absent : list_any (λ (x : K). bytes_eq (bytes k) (bytes x)) ks ≡ false
-            = any_map bytes (bytes_eq (bytes k)) ks ∙ ap (list_any (bytes_eq (bytes k))) h ∙ ap (λ (n : List ℕ). list_any (bytes_eq n) (map file_name files)) e ∙ none_there files file.external none in
+    = any_map bytes (bytes_eq (bytes k)) ks ∙ ap (list_any (bytes_eq (bytes k))) h ∙ ap (λ (n : List ℕ). list_any (bytes_eq n) (map file_name files)) e ∙ none_there files file.external none in
     ap (λ (b : Bool). map bytes (cond b ks (ks ++ k ∷ []))) absent
     ∙ map_more bytes ks k
     ∙ ap (λ (xs : List (List ℕ)). xs ++ bytes k ∷ []) h

@@ -68,11 +68,7 @@ fn names_of<'a>(alloc: Global, files: &'a [Named]) -> Result<NameTable<'a, &'a [
     Ok(names)
 }
 
-fn put<'a>(
-    names: &mut NameTable<'a, &'a [u8]>,
-    key: &'a [u8],
-    name: &'a [u8],
-) -> Result<(), Memory>
+fn put<'a>(names: &mut NameTable<'a, &'a [u8]>, key: &'a [u8], name: &'a [u8]) -> Result<(), Memory>
     ensures { OnOk result (spec.shown names.new ≡ with_value (spec.shown names.old) key.now name.now) }
 {
     names.put(key, name)?;

@@ -28,11 +28,7 @@ fn bytes_of(alloc: Global, bytes: &[u8]) -> Result<Bytes, Memory>
     Ok(copy)
 }
 
-fn new_file(
-    alloc: Global,
-    known: &KnownFiles<'_>,
-    record: &FileRecord,
-) -> Result<FileUse, Memory>
+fn new_file(alloc: Global, known: &KnownFiles<'_>, record: &FileRecord) -> Result<FileUse, Memory>
     ensures { IfOk result (λ file. file ≡ spec.new_file (name_by known.now) record.now) }
 {
     let mut areas = List::new(alloc);

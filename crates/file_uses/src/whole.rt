@@ -81,11 +81,7 @@ fn alike_files(
     }
 }
 
-fn check_lengths(
-    alloc: Global,
-    table: &FileTable,
-    records: &[FileRecord],
-) -> Result<(), FileFault>
+fn check_lengths(alloc: Global, table: &FileTable, records: &[FileRecord]) -> Result<(), FileFault>
     requires { IsTable table.now }
     ensures right { OnOk result (NonePasses (with_names no_names (areas.unlike table.now.files.items records.now))) }
     ensures fault { IfErr result (spec.AreUnlike (with_names no_names (areas.unlike table.now.files.items records.now))) }

@@ -1,5 +1,5 @@
 -- What is read of texts is sound.
-use Rattle.std.proofs.Common.{◌≡◌, ℕ, ◌+◌, ◌≤◌, Bool, true, false, cond, nat_lt, List, [], ◌∷◌, length, Option, refl, sym, ap, ◌∙◌, subst, arith}
+use Rattle.std.proofs.Common.{◌≡◌, ℕ, ◌+◌, ◌≤◌, Bool, true, false, cond, nat_lt, List, [], ◌∷◌, length, Option, refl, sym, ap, ◌∙◌, subst, arith, ltb-false}
 use Rattle.std.proofs.lemmas.Bool.{true≢false}
 use Rattle.cobol_syntax.specs.declared.program.Program.{Program}
 use Rattle.copy_origins.specs.declared.books.Book.{Book}
@@ -16,20 +16,20 @@ use Rattle.file_uses.specs.Names.{name_of}
 use Rattle.gathered.specs.Portfolios.{IsPortfolioOf}
 use Rattle.gathered.specs.Sound.{AreLaid, bytes_of_all, AreOwn, AreUsed, IsSound}
 
-is_cons : List Refused → Bool
+abbrev is_cons : List Refused → Bool
 is_cons [] = false
 is_cons (x ∷ xs) = true
 
 module _ (p : Program) (l : Layout) where
-  within_step : (a : Area) (as : List Area) (before : ℕ) (b : Bool) → nat_lt 4000000 (before + a.length) ≡ b
-      → ((before + a.length ≤ 4000000) → faults_of_areas p l (before + a.length) as ≡ [] → (before + a.length) + bytes_of as ≤ 4000000)
-      → cond b (full p l a ∷ []) (faults_of_areas p l (before + a.length) as) ≡ [] → before + (a.length + bytes_of as) ≤ 4000000
-  within_step a as before true t ih e = absurd (true≢false (ap is_cons e))
-  within_step a as before false t ih e = omega (arith, ih (omega (arith, t)) e)
+  within_step : (a : Area) (rest : List Area) (before : ℕ) (b : Bool) → nat_lt 4000000 (before + a.length) ≡ b
+      → ((before + a.length ≤ 4000000) → faults_of_areas p l (before + a.length) rest ≡ [] → (before + a.length) + bytes_of rest ≤ 4000000)
+      → cond b (full p l a ∷ []) (faults_of_areas p l (before + a.length) rest) ≡ [] → before + (a.length + bytes_of rest) ≤ 4000000
+  within_step a rest before true t ih e = absurd (true≢false (ap is_cons e))
+  within_step a rest before false t ih e = omega (arith, ih (omega (arith, ltb-false 4000000 (before + a.length) t)) e)
 
   within : (areas : List Area) (before : ℕ) → before ≤ 4000000 → faults_of_areas p l before areas ≡ [] → before + bytes_of areas ≤ 4000000
   within [] before few e = omega (arith, few)
-  within (a ∷ as) before few e = within_step a as before (nat_lt 4000000 (before + a.length)) refl (λ few e. within as (before + a.length) few e) e
+  within (a ∷ rest) before few e = within_step a rest before (nat_lt 4000000 (before + a.length)) refl (λ few e. within rest (before + a.length) few e) e
 
 module _ (books : List Book) where
   laid : (before : Before) (ss : List Source) (ps : List Program) (ls : List Layout) → AreMembers books before ss ps ls → AreLaid before.area ps ls
@@ -68,7 +68,7 @@ module _ (books : List Book) where
 pub sound : (words : TextWords) (files : Option (List Named)) (p : Portfolio) → IsPortfolioOf words files p → IsSound p
 sound words files p h = record {
   laid = laid words.books.list nothing words.sources p.programs p.layouts h.members;
-  most = most words.books.list nothing words.sources p.programs p.layouts (omega arith) h.members;
+  most = omega (arith, most words.books.list nothing words.sources p.programs p.layouts (omega arith) h.members);
   own = own words.books.list nothing words.sources p.programs p.layouts h.members;
   used = used words.books.list nothing words.sources p.programs p.layouts h.members;
   names = name_of files;

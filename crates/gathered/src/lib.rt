@@ -6,7 +6,5 @@ mod gathering;
 #[cfg(test)]
 mod tests;
 
-
-
-pub use gathering::{Gathered, assemble};
 pub use fault::GatherFault;
+pub use gathering::{Gathered, assemble};

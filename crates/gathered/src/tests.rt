@@ -23,23 +23,34 @@ fn text(alloc: Global, role: TextRole, key: &str, lines: &str) -> Result<Text, M
 
 /// A program of that name with these lines from line 3 on, up to its procedure division.
 fn program(alloc: Global, id: &str, lines: &str) -> Result<Text, Fail> {
-    with_procedure(alloc, id, lines, "       MAIN-PARA.\n           STOP RUN.\n")
+    with_procedure(
+        alloc,
+        id,
+        lines,
+        "       MAIN-PARA.\n           STOP RUN.\n",
+    )
 }
 
 fn with_procedure(alloc: Global, id: &str, lines: &str, procedure: &str) -> Result<Text, Fail> {
-    let whole = format!(in alloc; "       ID DIVISION.\n       PROGRAM-ID. {id}.\n{lines}       PROCEDURE DIVISION.\n{procedure}")?;
+    let whole = format!(in alloc;
+        "       ID DIVISION.\n       PROGRAM-ID. {id}.\n{lines}       PROCEDURE DIVISION.\n{procedure}"
+    )?;
     Ok(text(alloc, TextRole::Program, "", whole.as_str())?)
 }
 
 /// A program with these entries in working storage, from line 5 on.
 fn with_storage(alloc: Global, id: &str, entries: &str) -> Result<Text, Fail> {
-    let lines = format!(in alloc; "       DATA DIVISION.\n       WORKING-STORAGE SECTION.\n{entries}")?;
+    let lines = format!(in alloc;
+        "       DATA DIVISION.\n       WORKING-STORAGE SECTION.\n{entries}"
+    )?;
     program(alloc, id, lines.as_str())
 }
 
 /// A program that selects a file under an external name, with records of so many bytes.
 fn with_file(alloc: Global, id: &str, external: &str, length: u32) -> Result<Text, Fail> {
-    let lines = format!(in alloc; "       ENVIRONMENT DIVISION.\n       INPUT-OUTPUT SECTION.\n       FILE-CONTROL.\n           SELECT F ASSIGN TO {external}.\n       DATA DIVISION.\n       FILE SECTION.\n       FD F.\n       01 R PIC X({length}).\n")?;
+    let lines = format!(in alloc;
+        "       ENVIRONMENT DIVISION.\n       INPUT-OUTPUT SECTION.\n       FILE-CONTROL.\n           SELECT F ASSIGN TO {external}.\n       DATA DIVISION.\n       FILE SECTION.\n       FD F.\n       01 R PIC X({length}).\n"
+    )?;
     program(alloc, id, lines.as_str())
 }
 
@@ -170,7 +181,9 @@ fn a_layout_comes_before_the_grammar_of_the_next_program(rt: HostRuntime) -> Res
 }
 
 #[test]
-fn a_layout_comes_before_names_and_these_before_external_names(rt: HostRuntime) -> Result<(), Fail> {
+fn a_layout_comes_before_names_and_these_before_external_names(
+    rt: HostRuntime,
+) -> Result<(), Fail> {
     let alloc = rt.alloc();
     let first = program(alloc, "P", "")?;
     let second = with_storage(alloc, "P", "       05 A PIC X.\n")?;

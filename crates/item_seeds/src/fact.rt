@@ -1,4 +1,4 @@
-ghost use Rattle.std.specs.Prelude.{◌≡◌, ◌≤◌, ◌++◌, replicate, slice_get, IfOk, OnOk};
+ghost use Rattle.std.specs.Prelude.{◌≡◌, ◌+◌, true, replicate, slice_get, IfOk};
 ghost use Rattle.data_layout.specs.declared.item.Class.TheVariants as class;
 ghost use Rattle.item_seeds.specs.Seeds as spec;
 

@@ -45,6 +45,7 @@ pub(crate) fn place_at(span: Span, index: u32) -> BytePlace
     }
 }
 
+/// That the byte of that index of the span bears the label.
 pub fn fact_at(span: Span, index: u32, label: Label) -> Fact
     requires placed { IsPlaced span }
     requires within { index < span.length }
@@ -166,6 +167,7 @@ fn byte_bears(
     }
 }
 
+/// Whether the byte of that index holds the digit of that power.
 pub fn holds_power(powers: &[Option<u8>], index: usize, power: u8) -> bool
     ensures { IsTrue result ↔ HoldsPower powers.now index power }
 {

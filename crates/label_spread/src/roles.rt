@@ -14,6 +14,7 @@ use crate::packed::{give_packed, has_packed_role};
 use y2k_base::{BytePlace, Memory};
 use year_labels::{Label, Role, View};
 
+/// The label of a byte that holds just a digit of that role.
 pub fn label_for(role: Role) -> Label
     ensures { result ≡ label_of role }
 {

@@ -49,8 +49,7 @@ fn full(program: &Program, layout: &Layout, area: &Area) -> ReadFault
 fn fills(area: &Area, item: &Item) -> bool
     ensures { result ≡ spec.fills area.now item.now }
 {
-    item.parent.is_none()
-        && (item.span.area.0 == area.id.0 && item.span.length == area.length)
+    item.parent.is_none() && (item.span.area.0 == area.id.0 && item.span.length == area.length)
 }
 
 /// The position of the entry of the first item that fills the area.

@@ -6,7 +6,5 @@ mod area;
 mod origin;
 mod repeat;
 
-
-
 pub use area::{MOST_BYTES, check_areas};
 pub use repeat::check_names;

@@ -16,6 +16,7 @@ const ID_AT: usize = 5;
 /// What has a name of its own.
 trait Spelled {
     ghost spelling: { Self → List ℕ };
+
     ghost place: { Self → ℕ };
 
     fn name(&self) -> &[u8]
@@ -28,6 +29,7 @@ trait Spelled {
 
 impl Spelled for Select {
     ghost spelling = { spec.select_name };
+
     ghost place = { spec.select_place };
 
     fn name(&self) -> &[u8] {
@@ -41,6 +43,7 @@ impl Spelled for Select {
 
 impl Spelled for FileEntry {
     ghost spelling = { spec.file_name };
+
     ghost place = { spec.file_place };
 
     fn name(&self) -> &[u8] {
@@ -54,6 +57,7 @@ impl Spelled for FileEntry {
 
 impl Spelled for Paragraph {
     ghost spelling = { spec.paragraph_name };
+
     ghost place = { spec.paragraph_place };
 
     fn name(&self) -> &[u8] {

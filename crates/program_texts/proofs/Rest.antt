@@ -19,9 +19,9 @@ module _ (books : List Book) (sources : List Source) where
       → IsMember books before s p l → Goes books sources before (s ∷ more) ps ls → Goes books sources (after before p l) more (ps ++ p ∷ []) (ls ++ l ∷ [])
   goes_by before s more p l ps ls m g = record {
     members = λ qs ks h.
-      subst (λ (xs : List Program). AreMembers books nothing sources xs ((ls ++ l ∷ []) ++ ks)) (sym (append_assoc ps (p ∷ []) qs))
-      (subst (λ (ys : List Layout). AreMembers books nothing sources (ps ++ p ∷ qs) ys) (sym (append_assoc ls (l ∷ []) ks))
-      (g.members (p ∷ qs) (l ∷ ks) (m, h)));
+        subst (λ (xs : List Program). AreMembers books nothing sources xs ((ls ++ l ∷ []) ++ ks)) (sym (append_assoc ps (p ∷ []) qs))
+        (subst (λ (ys : List Layout). AreMembers books nothing sources (ps ++ p ∷ qs) ys) (sym (append_assoc ls (l ∷ []) ks))
+        (g.members (p ∷ qs) (l ∷ ks) (m, h)));
     refused = λ f h. g.refused f (inr (p, l, m, h));
   }
 
