@@ -77,12 +77,7 @@ fn refusal_of(fault: LoadFault) -> Refusal
 }
 
 /// The label lines of the program that the text is.
-fn labels_of_text(
-    alloc: Global,
-    source: &str,
-    text: Bytes,
-    item: &str,
-) -> Result<Labels, Refusal>
+fn labels_of_text(alloc: Global, source: &str, text: Bytes, item: &str) -> Result<Labels, Refusal>
     ensures labels { IfOk result (λ labels. IsLabelled source.now text item.now labels.clean labels.text) }
     ensures cause { IfErr result (HasTextCause source.now text item.now) }
 {
@@ -138,11 +133,7 @@ fn refusal_told(fault: GatherFault) -> Refusal
 }
 
 /// The label lines of a portfolio of one program.
-fn labels_of_portfolio(
-    alloc: Global,
-    portfolio: &Portfolio,
-    item: &str,
-) -> Result<Labels, Refusal>
+fn labels_of_portfolio(alloc: Global, portfolio: &Portfolio, item: &str) -> Result<Labels, Refusal>
     requires { AllByRecursion IsReady portfolio.now.layouts }
     ensures labels { IfOk result (λ labels. AreLabels portfolio.now item.now labels.clean labels.text) }
     ensures cause { IfErr result (HasItemCause portfolio.now item.now) }
