@@ -30,7 +30,7 @@ cases_at : {X : Type 0} (x z : X) (xs : List X) (k : ℕ) → k < length (x ∷ 
 cases_at x z xs zero l e = inl e
 cases_at x z xs (suc k) l e = inr (k, omega arith, e)
 
-first_or_later : {X : Type 0} (x z : X) (xs : List X) → Contains (x ∷ xs) z → (x ≡ z) ⊎ Contains xs z
+pub first_or_later : {X : Type 0} (x z : X) (xs : List X) → Contains (x ∷ xs) z → (x ≡ z) ⊎ Contains xs z
 first_or_later x z xs h = cases_at x z xs h.0 h.1 h.2
 
 there_later : (portfolio : Portfolio) (bytes : ℕ) (first : FileArea) (uses : List FileArea) (later : FileArea) → Contains uses later → Contains (later_rules portfolio bytes first uses) (same_file portfolio bytes first later)

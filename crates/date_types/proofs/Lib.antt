@@ -1,3 +1,4 @@
 pub mod Occurrences
 pub mod Ties
 pub mod Among
+pub mod Longer

@@ -2,7 +2,7 @@ ghost use Rattle.std.specs.Prelude.{◌≡◌, IfOk, All};
 ghost use Rattle.std.specs.List.{AllByRecursion};
 ghost use Rattle.data_layout.specs.Index.{IsReady};
 ghost use Rattle.year_labels.specs.Forms.{IsFit};
-ghost use Rattle.date_types.specs.Laws.{AreTablesAlike, AreFilesAlike};
+ghost use Rattle.date_types.specs.Laws.{AreTablesAlike, AreFilesAlike, ArePicturesAlike};
 ghost use Rattle.date_types.specs.Whole as spec;
 
 use crate::fits::are_fit;
@@ -23,6 +23,7 @@ pub fn rules_of(alloc: Global, portfolio: &Portfolio) -> Result<List<RuleInst>, 
     ensures fit { IfOk result (All (λ r. IsFit r.form)) }
     ensures tables { IfOk result (AreTablesAlike portfolio.now) }
     ensures files { IfOk result (AreFilesAlike portfolio.now) }
+    ensures pictures { IfOk result (ArePicturesAlike portfolio.now) }
 {
     let rules = all_rules(alloc, portfolio)?;
     Ok(rules)

@@ -28,15 +28,15 @@ fn bytes_of(alloc: Global, bytes: &[u8]) -> Result<Bytes, Memory>
     Ok(copy)
 }
 
-fn new_file(alloc: Global, known: &KnownFiles<'_>, record: &FileRecord) -> Result<FileUse, Memory>
-    ensures { IfOk result (λ file. file ≡ spec.new_file (name_by known.now) record.now) }
+fn new_file(alloc: Global, known: &KnownFiles<'_>, found: &FileRecord) -> Result<FileUse, Memory>
+    ensures { IfOk result (λ file. file ≡ spec.new_file (name_by known.now) found.now) }
 {
     let mut areas = List::new(alloc);
-    areas.push(record.place)?;
+    areas.push(found.place)?;
     Ok(FileUse {
-        external: record.external.twin(alloc)?,
-        name: bytes_of(alloc, known.name_of(record.external.items()))?,
-        length: record.length,
+        external: found.external.twin(alloc)?,
+        name: bytes_of(alloc, known.name_of(found.external.items()))?,
+        length: found.length,
         areas,
     })
 }
@@ -80,8 +80,8 @@ impl FileTable {
     {
         let mut table = FileTable::new(alloc);
         let mut rest = records;
-        while let [record, more @ ..] = rest {
-            table.add(alloc, known, record)?;
+        while let [found, more @ ..] = rest {
+            table.add(alloc, known, found)?;
             rest = more;
         }
         Ok(table)
@@ -100,19 +100,19 @@ impl FileTable {
         &mut self,
         alloc: Global,
         known: &KnownFiles<'_>,
-        record: &FileRecord,
+        found: &FileRecord,
     ) -> Result<(), Memory>
         requires { IsTable self.old }
         ensures table { OnOk result (IsTable self.new) }
-        ensures files { OnOk result (self.new.files.items ≡ spec.with_record (name_by known.now) self.old.files.items record.now) }
+        ensures files { OnOk result (self.new.files.items ≡ spec.with_record (name_by known.now) self.old.files.items found.now) }
     {
-        match self.index_of(record.external.items()) {
+        match self.index_of(found.external.items()) {
             Some(index) => {
-                add_area(&mut self.files, index, record.place)?;
+                add_area(&mut self.files, index, found.place)?;
                 Ok(())
             }
             None => {
-                let file = new_file(alloc, known, record)?;
+                let file = new_file(alloc, known, found)?;
                 self.add_file(alloc, file)?;
                 Ok(())
             }
@@ -143,12 +143,12 @@ impl FileTable {
         }
     }
 
-    fn has_length(&self, record: &FileRecord) -> bool
+    fn has_length(&self, found: &FileRecord) -> bool
         requires { IsTable self.now }
-        ensures { result ≡ spec.has_length self.now.files.items record.now }
+        ensures { result ≡ spec.has_length self.now.files.items found.now }
     {
-        match self.length_of(record.external.items()) {
-            Some(length) => length == record.length,
+        match self.length_of(found.external.items()) {
+            Some(length) => length == found.length,
             None => true,
         }
     }
@@ -160,9 +160,9 @@ impl FileTable {
     {
         let mut names = Names::new(alloc);
         let mut rest = records;
-        while let [record, more @ ..] = rest {
-            if !self.has_length(record) {
-                names.add(alloc, record.external.items())?;
+        while let [found, more @ ..] = rest {
+            if !self.has_length(found) {
+                names.add(alloc, found.external.items())?;
             }
             rest = more;
         }

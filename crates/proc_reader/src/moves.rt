@@ -4,7 +4,7 @@ ghost use Rattle.cobol_syntax.specs.declared.statement.Form.TheVariants as form;
 use crate::keyword::Keyword;
 use crate::sentence::Sentences;
 use crate::spot::Stop;
-use crate::tree::alone;
+use crate::tree::{alone, with_room};
 use cobol_syntax::{Form, Operand, Place, Register};
 use cond_reader::Symbol;
 use std::alloc::Global;
@@ -14,7 +14,7 @@ use y2k_base::{List, Memory, Twin};
 fn moves(alloc: Global, from: &Operand, places: List<Place>) -> Result<List<Form>, Memory>
     ensures { IfOk result (λ forms. forms ≡ map (form.Move from.now) places) }
 {
-    let mut forms = List::new(alloc);
+    let mut forms = with_room(alloc, places.len())?;
     for to in places.into_vec() {
         let from = from.twin(alloc)?;
         forms.push(Form::Move { from, to })?;

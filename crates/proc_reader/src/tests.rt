@@ -645,21 +645,22 @@ fn at_most_64_levels_are_open_at_once(rt: HostRuntime) -> Result<(), Fail> {
     Ok(())
 }
 
-/// How many IF stand in the chain that these statements begin, one in the ELSE of the other.
+/// How many IF stand in the chain that these statements begin, one in the ELSE of the other; at most 30,000.
 fn chain_length(mut list: &List<Statement>) -> u32 {
-    let mut length = 0u32;
-    loop {
+    for length in 0..30_000u32 {
         match list.items() {
             [one] => match &one.form {
-                Form::If { other, .. } => {
-                    length = length.saturating_add(1);
-                    list = other;
-                }
+                Form::If {
+                    test: _,
+                    yes: _,
+                    other,
+                } => list = other,
                 _ => return length,
             },
             _ => return length,
         }
     }
+    30_000
 }
 
 /// What is read of a sentence of a head, a part that is repeated 20,000 times, and an end: the length of the chain of

@@ -109,11 +109,19 @@ pub fn branch(
     }
 }
 
+/// An empty list with room for so many items: statements are large, and most lists of them have one.
+pub fn with_room<T>(alloc: Global, count: usize) -> Result<List<T>, Memory>
+    ensures { IfOk result (λ list. list ≡ []) }
+{
+    let items = Vec::with_capacity(alloc, count)?;
+    Ok(List::from_vec(items))
+}
+
 /// A list of one item.
 pub fn alone<T: Drop>(alloc: Global, item: T) -> Result<List<T>, Memory>
     ensures { IfOk result (λ list. list ≡ item ∷ []) }
 {
-    let mut list = List::new(alloc);
+    let mut list = with_room(alloc, 1)?;
     list.push(item)?;
     Ok(list)
 }
@@ -153,7 +161,7 @@ pub fn numbered(
 ) -> Result<List<Statement>, Memory>
     ensures { IfOk result (λ list. list ≡ spec.numbered program at end first forms) }
 {
-    let mut statements = List::new(alloc);
+    let mut statements = with_room(alloc, 1)?;
     for form in forms.into_vec() {
         let number = number_after(first, statements.len())?;
         statements.push(statement(program, number, at, end, form))?;

@@ -202,17 +202,17 @@ impl HeldFile {
     }
 
     /// WRITE of a record, which is filled with spaces.
-    pub(crate) fn write(&mut self, alloc: Global, record: &[u8]) -> Result<Status, Memory>
-        requires room { length record.now ≤ self.old.size }
-        ensures status { IfOk result (λ status. code status ≡ (write_file (disk self.old) record.now).status) }
-        ensures disk { OnOk result (disk self.new ≡ (write_file (disk self.old) record.now).disk) }
+    pub(crate) fn write(&mut self, alloc: Global, bytes: &[u8]) -> Result<Status, Memory>
+        requires room { length bytes.now ≤ self.old.size }
+        ensures status { IfOk result (λ status. code status ≡ (write_file (disk self.old) bytes.now).status) }
+        ensures disk { OnOk result (disk self.new ≡ (write_file (disk self.old) bytes.now).disk) }
         ensures err { OnErr result (disk self.new ≡ disk self.old) }
     {
         match self.state {
             OpenState::Closed => Ok(Status::S48),
             OpenState::Reading { .. } => Ok(Status::S48),
             OpenState::Writing => {
-                let row = filled_record(alloc, record, self.size)?;
+                let row = filled_record(alloc, bytes, self.size)?;
                 self.push(row)?;
                 Ok(Status::S00)
             }
@@ -249,14 +249,14 @@ fn record_at(bytes: &[u8], next: usize, size: usize) -> Option<&[u8]>
 }
 
 /// A record, filled with spaces to its size.
-fn filled_record(alloc: Global, record: &[u8], size: usize) -> Result<Bytes, Memory>
-    requires room { length record.now ≤ size }
-    ensures filled { IfOk result (λ row. row ≡ copied size record.now) }
+fn filled_record(alloc: Global, bytes: &[u8], size: usize) -> Result<Bytes, Memory>
+    requires room { length bytes.now ≤ size }
+    ensures filled { IfOk result (λ row. row ≡ copied size bytes.now) }
     ensures size { IfOk result (λ row. length row ≡ size) }
 {
-    let spaces = vec![in alloc; b' '; size - record.len()]?;
+    let spaces = vec![in alloc; b' '; size - bytes.len()]?;
     let mut row = List::new(alloc);
-    row.append(record)?;
+    row.append(bytes)?;
     row.append(spaces.as_slice())?;
     Ok(row)
 }
