@@ -7,7 +7,7 @@ use Rattle.data_layout.specs.declared.portfolio.Portfolio.{Portfolio}
 use Rattle.date_types.specs.Whole.{rules}
 use Rattle.item_seeds.specs.Names.{named_item}
 use Rattle.item_seeds.specs.Seeds.{year_seeds}
-use Rattle.label_spread.specs.Derivation.{AreDerivable}
+use Rattle.year_labels.specs.Derivation.{AreDerivable}
 use Rattle.year_labels.specs.declared.label.Fact.{Fact}
 use Rattle.year_labels.specs.declared.label.Seed.{Seed}
 use Rattle.year_labels.specs.Facts.{IsClean}

@@ -1,4 +1,5 @@
-ghost use Rattle.std.specs.Prelude.{◌≡◌, ◌≤◌, ◌∷◌, [], ℕ, List, Option, None, IfOk, IfErr, IsErrOf, if◌then◌else◌, AllByRecursion};
+ghost use Rattle.std.specs.Prelude.{◌≡◌, ◌≤◌, ◌∷◌, [], ℕ, List, Option, None, IfOk, IfErr, IsErrOf, if◌then◌else◌};
+ghost use Rattle.std.specs.List.{AllByRecursion};
 ghost use Rattle.shelf.specs.Causes.{Rose};
 ghost use Rattle.shelf.specs.Contents.{Files};
 ghost use Rattle.text_load.specs.Texts.{HasLoadFault};

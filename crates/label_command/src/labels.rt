@@ -1,6 +1,7 @@
-ghost use Rattle.std.specs.Prelude.{◌≡◌, IfOk, AllByRecursion, slice_get};
+ghost use Rattle.std.specs.Prelude.{◌≡◌, ◌∷◌, [], IfOk, slice_get};
+ghost use Rattle.std.specs.List.{AllByRecursion};
 ghost use Rattle.data_layout.specs.Index.{IsReady};
-ghost use Rattle.label_spread.specs.Derivation.{AreDerivable};
+ghost use Rattle.year_labels.specs.Derivation.{AreDerivable};
 ghost use Rattle.year_labels.specs.Order.{IsAscending};
 ghost use Rattle.date_types.specs.Whole as whole;
 ghost use Rattle.label_command.specs.Labels.{AreLabelsFrom, first_areas, seeds_at, seeds_by, seeds_in};
