@@ -37,6 +37,6 @@ pub fn annodomini<S: Shelf, K: Sink>(
 {
     match label_one_of(words) {
         Some(found) => label_one(alloc, found.source, found.item, shelf, out),
-        None => say(USAGE_LINE, USAGE, out),
+        None => say(USAGE_LINE.as_bytes(), USAGE, out),
     }
 }

@@ -33,13 +33,13 @@ pub const SINK_FAULT: u8 = 7;
 pub const NO_MEMORY: u8 = 8;
 
 /// Prints a text and answers the status, or that of the fault that came while it was printed.
-pub fn say<K: Sink>(text: &str, status: u8, out: &mut K) -> u8
+pub fn say<K: Sink>(text: &[u8], status: u8, out: &mut K) -> u8
     requires { status ≢ 7 }
     ensures said { IsSaid status text.now (K.taken out.old) (K.taken out.new) result }
     ensures sink_fault { result ≡ 7 → Rose (K.faults out.old) (K.faults out.new) }
     ensures later { K.faults out.old ≤ K.faults out.new }
 {
-    match out.put(text.as_bytes()) {
+    match out.put(text) {
         Ok(()) => status,
         Err(SinkErr::Failed) => SINK_FAULT,
         Err(SinkErr::Memory) => NO_MEMORY,

@@ -1,56 +1,55 @@
 -- What `label-one` answers.
-use Rattle.std.specs.Prelude.{◌≡◌, ◌⊎◌, ◌↔◌, ℕ, ◌<◌, Bool, IsTrue, if◌then◌else◌, List, [], codes, map, Option, Some, None}
+use Rattle.std.specs.Prelude.{◌≡◌, ◌⊎◌, ℕ, Bool, if◌then◌else◌, List, [], ◌∷◌, codes, Option, None}
 use Rattle.shelf.specs.Contents.{Files}
 use Rattle.answers.specs.Lines.{refused_name_line, refused_place_line, shelf_fault_line}
 use Rattle.answers.specs.Said.{IsPrinted}
 use Rattle.text_load.specs.Texts.{HasText, HasLoadFault}
 use Rattle.text_load.specs.declared.LoadFault.TheVariants as load
-use Rattle.year_labels.specs.declared.label.Fact.{Fact}
-use Rattle.year_labels.specs.Facts.{IsClean}
-use Rattle.year_labels.specs.Order.{IsAscending}
-use Rattle.year_labels.specs.Derivation.{AreDerivable}
-use Rattle.cobol_syntax.specs.declared.program.Program.{Program}
-use Rattle.label_command.specs.declared.form.PlainProgram.{PlainProgram}
+use Rattle.data_layout.specs.declared.portfolio.Portfolio.{Portfolio}
+use Rattle.gathered.specs.declared.fault.GatherFault.TheVariants as gather
+use Rattle.gathered.specs.Portfolios.{IsPortfolio, IsRefused}
 use Rattle.program_reader.specs.declared.fault.RefusedKind.{RefusedKind}
 use Rattle.program_reader.specs.declared.fault.RefusedKind.TheVariants as kinds
+use Rattle.y2k_base.specs.declared.text.Text.{Text}
+use Rattle.y2k_base.specs.declared.text.TextRole.TheVariants as role
 use Rattle.label_command.specs.declared.refusal.Refusal.{Refusal}
 use Rattle.label_command.specs.declared.refusal.Refusal.TheVariants as refusals
-use Rattle.label_command.specs.Years.{year_area_of, year_seeds_of}
-use Rattle.label_command.specs.Rules.{rule_for}
-use Rattle.label_command.specs.Lines.{lines_of}
-use Rattle.label_command.specs.Texts.{IsTree, IsRefusedText}
+use Rattle.label_command.specs.Labels.{AreLabels, seeds_in}
 
--- the text is the lines of the least labelling of the program in which the first two bytes of the area are a year, and
--- clean says whether no byte has unlike labels
-pub record AreLabelsFrom (program : PlainProgram) (area : ℕ) (clean : Bool) (text : List ℕ) : Type 0 where
-  pub facts : List Fact
-  pub ordered : IsAscending facts
-  pub least : AreDerivable (year_seeds_of area) (map rule_for program.moves) facts
-  pub alike : IsTrue clean ↔ IsClean facts
-  pub printed : text ≡ lines_of program.items facts
+-- the text of a program under its name
+abbrev pub the_text : List ℕ → List ℕ → Text
+the_text source bytes = record { name = source; key = []; role = role.Program; bytes = bytes }
 
--- the same, where the area is the item's
-abbrev pub AreLabels : PlainProgram → List ℕ → Bool → List ℕ → Type 0
-AreLabels program item clean text = (area : ℕ) × (year_area_of program.items item ≡ Some area) × AreLabelsFrom program area clean text
+-- the texts are a portfolio with these label lines; every external name is known
+abbrev pub AreLabelsIn : List Text → List ℕ → Bool → List ℕ → Type 0
+AreLabelsIn texts item clean text = (p : Portfolio) × IsPortfolio texts None p × AreLabels p item clean text
 
 -- the text is a program with these label lines
-abbrev pub IsLabelled : List ℕ → List ℕ → Bool → List ℕ → Type 0
-IsLabelled bytes item clean text = (tree : Program) × IsTree bytes tree × ((plain : PlainProgram) × AreLabels plain item clean text)
+abbrev pub IsLabelled : List ℕ → List ℕ → List ℕ → Bool → List ℕ → Type 0
+IsLabelled source bytes item clean text = AreLabelsIn (the_text source bytes ∷ []) item clean text
 
 -- the shelf has such a text
 abbrev pub AreLabelsOf : List ℕ → List ℕ → Option Files → Bool → List ℕ → Type 0
-AreLabelsOf source item told clean text = (bytes : List ℕ) × HasText source 0 bytes told × IsLabelled bytes item clean text
+AreLabelsOf source item told clean text = (bytes : List ℕ) × HasText source 0 bytes told × IsLabelled source bytes item clean text
 
--- what a program may lead to
-abbrev pub HasTreeCause : List ℕ → Refusal → Type 0
-HasTreeCause item (refusals.NotYetRead at) = Unit {0}
-HasTreeCause item refusals.SeedUnknown = (plain : PlainProgram) × (year_area_of plain.items item ≡ None)
-HasTreeCause item refusals.Memory = Unit {0}
-HasTreeCause item _ = ⊥
+-- what a portfolio may lead to
+abbrev pub HasItemCause : Portfolio → List ℕ → Refusal → Type 0
+HasItemCause p item refusals.SeedUnknown = seeds_in p.layouts item ≡ None
+HasItemCause p item refusals.Memory = Unit {0}
+HasItemCause p item _ = ⊥
+
+-- what texts may lead to
+abbrev pub HasTextsCause : List Text → List ℕ → Refusal → Type 0
+HasTextsCause texts item (refusals.At kind at) = IsRefused texts None (gather.Refused (record { kind = kind; at = at }))
+HasTextsCause texts item (refusals.FileUnknown name) = IsRefused texts None (gather.FileUnknown name)
+HasTextsCause texts item (refusals.RecordLengths name) = IsRefused texts None (gather.RecordLengths name)
+HasTextsCause texts item refusals.SeedUnknown = (p : Portfolio) × IsPortfolio texts None p × (seeds_in p.layouts item ≡ None)
+HasTextsCause texts item refusals.Memory = Unit {0}
+HasTextsCause texts item _ = ⊥
 
 -- what a text may lead to
-abbrev pub HasTextCause : List ℕ → List ℕ → Refusal → Type 0
-HasTextCause bytes item refusal = IsRefusedText bytes refusal ⊎ ((tree : Program) × IsTree bytes tree × HasTreeCause item refusal)
+abbrev pub HasTextCause : List ℕ → List ℕ → List ℕ → Refusal → Type 0
+HasTextCause source bytes item refusal = HasTextsCause (the_text source bytes ∷ []) item refusal
 
 -- why there are no label lines
 abbrev pub HasCause : List ℕ → List ℕ → Option Files → Refusal → Type 0
@@ -58,7 +57,7 @@ HasCause source item told refusals.Missing = HasLoadFault source 0 told load.Mis
 HasCause source item told refusals.TooLarge = HasLoadFault source 0 told load.TooLarge
 HasCause source item told refusals.Shelf = Unit {0}
 HasCause source item told refusals.Memory = Unit {0}
-HasCause source item told refusal = (bytes : List ℕ) × HasText source 0 bytes told × HasTextCause bytes item refusal
+HasCause source item told refusal = (bytes : List ℕ) × HasText source 0 bytes told × HasTextCause source bytes item refusal
 
 abbrev pub kind_name : RefusedKind → List ℕ
 kind_name kinds.BadByte = codes "BadByte"
@@ -84,7 +83,8 @@ abbrev pub line_of : List ℕ → List ℕ → Refusal → List ℕ
 line_of source item refusals.Missing = refused_name_line (codes "Missing") source
 line_of source item refusals.TooLarge = refused_name_line (codes "TooLarge") source
 line_of source item (refusals.At kind at) = refused_place_line (kind_name kind) source at.line at.column
-line_of source item (refusals.NotYetRead at) = refused_place_line (codes "NotYetRead") source at.line at.column
+line_of source item (refusals.FileUnknown name) = refused_name_line (codes "FileUnknown") name
+line_of source item (refusals.RecordLengths name) = refused_name_line (codes "RecordLengths") name
 line_of source item refusals.SeedUnknown = refused_name_line (codes "SeedUnknown") item
 line_of source item refusals.Shelf = shelf_fault_line source
 line_of source item refusals.Memory = []

@@ -1,5 +1,3 @@
 pub mod Answer
+pub mod Labels
 pub mod Lines
-pub mod Rules
-pub mod Texts
-pub mod Years

@@ -3,11 +3,8 @@
 #![tactic(auto)]
 
 mod command;
-mod form;
-mod plain;
+mod labels;
 mod print;
 mod refusal;
-mod rules;
-mod year;
 
 pub use command::label_one;

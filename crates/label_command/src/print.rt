@@ -1,22 +1,23 @@
 ghost use Rattle.std.specs.Prelude.{◌≡◌, ◌++◌, IfOk, OnOk, slice_get, string_bytes};
-ghost use Rattle.label_command.specs.Lines.{label_text, name_text, line_rest, line_of, lines_of};
+ghost use Rattle.label_command.specs.Lines.{area_text, label_text, line_of, line_rest, lines_of, name_text};
 
-use crate::form::ItemEntry;
-use year_labels::{Fact, Label, Labelling};
+use data_layout::Area;
 use std::alloc::{AllocError, Global};
+use y2k_base::{Bytes, List, Memory};
+use year_labels::{Fact, Label, Labelling};
 
 /// A line for each fact, in order.
-pub fn label_lines(
+pub(crate) fn label_lines(
     alloc: Global,
-    items: &[ItemEntry],
+    areas: &[Area],
     labelling: &Labelling,
-) -> Result<String, AllocError>
-    ensures { IfOk result (λ text. string_bytes text ≡ lines_of items.now labelling.now) }
+) -> Result<Bytes, Memory>
+    ensures { IfOk result (λ text. text ≡ lines_of areas.now labelling.now) }
 {
-    let mut text = String::new(alloc);
+    let mut text = List::new(alloc);
     for i in 0..labelling.count() {
         match labelling.at(i) {
-            Some(fact) => push_line(alloc, &mut text, items, fact)?,
+            Some(fact) => push_line(alloc, &mut text, areas, fact)?,
             None => return Ok(text),
         }
     }
@@ -24,29 +25,30 @@ pub fn label_lines(
 }
 
 /// Adds the line of a fact.
-fn push_line(
-    alloc: Global,
-    text: &mut String,
-    items: &[ItemEntry],
-    fact: Fact,
-) -> Result<(), AllocError>
-    ensures { OnOk result (string_bytes text.new ≡ string_bytes text.old ++ line_of items.now fact) }
+fn push_line(alloc: Global, text: &mut Bytes, areas: &[Area], fact: Fact) -> Result<(), Memory>
+    ensures { OnOk result (text.new ≡ text.old ++ line_of areas.now fact) }
 {
-    push_name(text, items, fact.place.area.0)?;
+    push_area(text, areas, fact.place.area.0)?;
     let rest = rest_of_line(alloc, fact.place.offset, fact.label)?;
-    text.push_str(rest.as_str())?;
-    Ok(())
+    text.append(rest.as_bytes())
 }
 
-fn push_name(text: &mut String, items: &[ItemEntry], area: u32) -> Result<(), AllocError>
-    ensures { OnOk result (string_bytes text.new ≡ string_bytes text.old ++ name_text (slice_get items.now area)) }
+fn push_area(text: &mut Bytes, areas: &[Area], area: u32) -> Result<(), Memory>
+    ensures { OnOk result (text.new ≡ text.old ++ area_text (slice_get areas.now area)) }
 {
-    let index = area as usize;
-    if index < items.len() {
-        let item = items[index];
-        text.push(char::from(item.name))?;
+    match areas.get(area as usize) {
+        Some(area) => push_name(text, &area.name),
+        None => Ok(()),
     }
-    Ok(())
+}
+
+fn push_name(text: &mut Bytes, name: &Option<Bytes>) -> Result<(), Memory>
+    ensures { OnOk result (text.new ≡ text.old ++ name_text name.now) }
+{
+    match name {
+        Some(name) => text.append(name.items()),
+        None => text.append("FILLER".as_bytes()),
+    }
 }
 
 fn rest_of_line(alloc: Global, offset: u32, label: Label) -> Result<String, AllocError>

@@ -15,7 +15,7 @@ answered source item told before after clean text said wanted status labels is s
 pub returns-in-Ok-clause-answer : goal.returns-in-Ok-clause-answer
 returns-in-Ok-clause-answer g c =
     answered c.args.source.now c.args.item.now _ _ _ c.in-Ok.labels.clean _ _ _ _
-    c.in-Ok.ensures.labels c.status_for.ensures c.as_str.ensures.value c.say.ensures.said
+    c.in-Ok.ensures.labels c.status_for.ensures c.items.ensures c.say.ensures.said
 
 refused : (source item : List ℕ) (told : Option Files) (before after : Option (List ℕ)) (refusal : Refusal) (status : ℕ) → HasCause source item told refusal
     → IsSaid (status_of refusal) (line_of source item refusal) before after status → IsAnswered source item told before after status
