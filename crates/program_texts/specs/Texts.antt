@@ -10,12 +10,10 @@ use Rattle.fixed_format.specs.Joined.{words_in, faults_in, IsFirstFault}
 use Rattle.fixed_format.specs.declared.fault.LineKind.{LineKind}
 use Rattle.fixed_format.specs.declared.fault.LineKind.TheVariants as line
 use Rattle.fixed_format.specs.declared.fault.LineFault.TheVariants as line_fault
-use Rattle.copy_origins.specs.declared.books.Book.{Book}
 use Rattle.program_reader.specs.declared.fault.ReadFault.{ReadFault}
 use Rattle.program_reader.specs.declared.fault.ReadFault.TheVariants as fault
 use Rattle.program_reader.specs.declared.fault.RefusedKind.{RefusedKind}
 use Rattle.program_reader.specs.declared.fault.RefusedKind.TheVariants as kind
-use Rattle.program_texts.specs.declared.line.Source.{Source}
 use Rattle.program_texts.specs.declared.line.TextWords.{TextWords}
 
 abbrev pub file : ℕ → FileId

@@ -14,6 +14,7 @@ use Rattle.operand_uses.specs.Places.{place_fault}
 use Rattle.operand_uses.specs.Conditions.{condition_fault}
 use Rattle.program_uses.specs.declared.beside.Beside.{Beside}
 use Rattle.program_uses.specs.Names.{Known}
+use Rattle.program_uses.specs.Overlap.{beside_apart}
 use Rattle.program_uses.specs.Simple.{move_fault, compute_fault, control_fault, range_fault, read_fault, write_fault, show_fault}
 
 -- A statement: whether it may be one of several that are read from its text, and the first fault in it and in what
@@ -26,9 +27,10 @@ pub record Told : Type 0 where
 abbrev pub told : ℕ → Option UseFault → Told
 told owner fault = record { beside = record { at = owner; right = true }; fault = fault }
 
-abbrev pub is_absent : {A : Type 0} → Option A → Bool
-is_absent None = true
-is_absent (Some x) = false
+-- a statement with a size phrase is the only one of its text
+abbrev pub with_size : {A : Type 0} → Beside → Option A → Beside
+with_size own None = own
+with_size own (Some phrase) = record { at = own.at; right = false }
 
 -- two neighbours are read from one text if they begin at one word
 abbrev pub beside_fault : Option Beside → Beside → Option UseFault
@@ -48,9 +50,9 @@ with_held own (Some fault) = sooner own fault
 module _ (layout : Layout) (files paragraphs : Known) where
   abbrev pub form_layer : Form-F (ℕ → Told) (Option UseFault) Told → ℕ → Told
   form_layer (f.Move from to) owner = told owner (move_fault layout owner from to)
-  -- arithmetic with a size phrase is the only statement of its text
+  -- arithmetic with a size phrase, or with a receiver that overlaps an operand, is the only statement of its text
   form_layer (f.Compute to rounded value rest size) owner =
-      record { beside = record { at = owner; right = is_absent size }; fault = with_held (compute_fault layout owner to value rest) size }
+      record { beside = with_size (beside_apart layout owner to value) size; fault = with_held (compute_fault layout owner to value rest) size }
   form_layer (f.If test body other) owner =
       told owner (sooner (condition_fault layout owner test) (sooner (listed None None body) (listed None None other)))
   form_layer f.NextSentence owner = told owner None

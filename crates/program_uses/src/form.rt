@@ -7,6 +7,7 @@ use crate::beside::{Beside, beside_fault};
 use crate::control::{control_fault, range_fault};
 use crate::file::{read_fault, write_fault};
 use crate::names::NameMap;
+use crate::overlap::beside_apart;
 use crate::simple::{compute_fault, move_fault, show_fault};
 use cobol_syntax::{Branch, Form, Paragraph, Sentence, Statement};
 use data_layout::Layout;
@@ -19,13 +20,20 @@ pub(crate) struct Names {
     pub paragraphs: NameMap,
 }
 
-/// Whether a statement may be one of several of its text, and where that begins. Arithmetic with a size phrase may not.
+/// Whether a statement may be one of several of its text, and where that begins. Arithmetic with a size phrase, or
+/// with a receiver that overlaps an operand, may not.
 fn beside_of_form(layout: &Layout, names: &Names, owner: u32, form: &Form) -> Beside
+    requires { IsReady layout.now }
     ensures { result ≡ (spec.tell_form layout.now (known names.now.files) (known names.now.paragraphs) form.now owner).beside }
 {
     match form {
-        Form::Compute { size, .. } => match size {
-            None => beside(owner, true),
+        Form::Compute {
+            to,
+            value,
+            size,
+            ..
+        } => match size {
+            None => beside_apart(layout, owner, to, value),
             Some(_) => beside(owner, false),
         },
         Form::Move { .. } => beside(owner, true),
@@ -51,6 +59,7 @@ fn beside(at: u32, right: bool) -> Beside
 }
 
 fn beside_of(layout: &Layout, names: &Names, statement: &Statement) -> Beside
+    requires { IsReady layout.now }
     ensures { result ≡ (spec.tell layout.now (known names.now.files) (known names.now.paragraphs) statement.now).beside }
 {
     beside_of_form(layout, names, statement.at, &statement.form)

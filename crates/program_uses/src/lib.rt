@@ -10,6 +10,7 @@ mod data;
 mod file;
 mod form;
 mod names;
+mod overlap;
 mod simple;
 #[cfg(test)]
 mod tests;
