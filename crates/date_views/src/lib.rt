@@ -15,5 +15,5 @@ pub use moves::{add_comparison, add_copy, add_move};
 pub use registers::add_register;
 pub use side::{Field, Side, area_side, side_of, whole_side};
 pub use sums::{add_difference, add_sum};
-pub use view::{digit_places, runs_of};
 pub use uses::{add_item, add_plain_bytes, add_use};
+pub use view::{digit_places, runs_of};

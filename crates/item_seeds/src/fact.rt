@@ -129,12 +129,7 @@ fn pair(
     }
 }
 
-fn byte_year(
-    alloc: Global,
-    row: u32,
-    item: &Item,
-    digit: u32,
-) -> Result<Option<List<Seed>>, Memory>
+fn byte_year(alloc: Global, row: u32, item: &Item, digit: u32) -> Result<Option<List<Seed>>, Memory>
     ensures { IfOk result (λ seeds. seeds ≡ spec.byte_year row item.now.span (spec.offsets_from 0 (spec.places_of item.now.class item.now)) digit) }
 {
     let places = places_of(alloc, item)?;
