@@ -1,3 +1,6 @@
+ghost use Rattle.std.specs.Prelude.{IfOk};
+ghost use Rattle.data_layout.specs.Index.{IsReady};
+
 use super::*;
 use cobol_syntax::{Entry, Program, Usage};
 use data_layout::{Layout, LayoutFault, lay_out};
@@ -39,7 +42,9 @@ fn entry_of(
 
 /// The group G of a text T, digits D, a signed number S with a sign byte before it, an edited item E, a packed number P,
 /// a packed number V with a decimal and a binary number B, at the offsets 0, 0, 4, 10, 15, 20, 24 and 27.
-fn layout_of_items(alloc: Global) -> Result<Layout, LayoutFault> {
+fn layout_of_items(alloc: Global) -> Result<Layout, LayoutFault>
+    ensures { IfOk result IsReady }
+{
     let shown = Usage::Display;
     let plus = SignPlace::Trailing;
     let mut storage = List::new(alloc);

@@ -1,3 +1,6 @@
+ghost use Rattle.std.specs.Prelude.{IfOk};
+ghost use Rattle.data_layout.specs.Index.{IsReady};
+
 use super::*;
 use cobol_syntax::{Entry, Part, Place, Program, Sub, Usage};
 use data_layout::{Layout, LayoutFault, lay_out};
@@ -38,7 +41,9 @@ fn entry_of(
 
 /// The group G of a text T, digits D, a signed number S, a decimal number V, a packed number P, a binary number B,
 /// an edited item E and a table of digits R.
-fn layout_of_kinds(alloc: Global) -> Result<Layout, LayoutFault> {
+fn layout_of_kinds(alloc: Global) -> Result<Layout, LayoutFault>
+    ensures { IfOk result IsReady }
+{
     let mut storage = List::new(alloc);
     storage.push(entry_of(alloc, b'G', b"", Usage::Display, None)?)?;
     storage.push(entry_of(alloc, b'T', b"X(6)", Usage::Display, None)?)?;
@@ -94,7 +99,9 @@ fn place_of(alloc: Global, name: u8, start: u32, length: u32) -> Result<Place, M
 }
 
 /// The kind of the item of a name; a group where there is none.
-fn kind_named(alloc: Global, layout: &Layout, name: u8) -> Result<Kind, Memory> {
+fn kind_named(alloc: Global, layout: &Layout, name: u8) -> Result<Kind, Memory>
+    requires { IsReady layout.now }
+{
     match see(layout, &place_of(alloc, name, 0, 0)?) {
         Some(seen) => Ok(seen.kind),
         None => Ok(Kind::Group),
