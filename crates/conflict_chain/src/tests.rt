@@ -1,7 +1,8 @@
 ghost use Rattle.std.specs.Prelude.{◌≡◌, IfOk, All};
 ghost use Rattle.year_labels.specs.Forms.{IsFit, IsFitView};
 
-use crate::{Chain, ChainStep, Why, check_chain};
+use crate::{Chain, ChainStep, Conflict, Why, check_chain, conflicts};
+use label_spread::spread;
 use std::alloc::Global;
 use std::test::Fail;
 use y2k_base::{AreaId, BytePlace, FileId, List, Origin, Span};
@@ -105,5 +106,143 @@ fn what_is_no_chain(rt: HostRuntime) -> Result<(), Fail> {
     assert!(rt; !is_chain(alloc, &[start, (third, Why::Rule(1), &[0])], third)?);
     assert!(rt; !is_chain(alloc, &[start, (second, Why::Rule(0), &[])], second)?);
     assert!(rt; !is_chain(alloc, &[start, (second, Why::Rule(0), &[0, 7])], second)?);
+    Ok(())
+}
+
+/// A rule that this many bytes of two areas are alike.
+fn group(first: u32, second: u32, length: u32) -> RuleInst {
+    let mut rule = alike(first, second);
+    let a = Span {
+        area: AreaId(first),
+        offset: 0,
+        length,
+    };
+    let b = Span {
+        area: AreaId(second),
+        offset: 0,
+        length,
+    };
+    rule.form = RuleForm::Alike { a, b };
+    rule
+}
+
+fn give(fact: Fact) -> RuleInst {
+    let mut rule = alike(0, 0);
+    rule.form = RuleForm::Give { fact };
+    rule
+}
+
+/// Whether the conflict is of this byte, and its chains are valid and have so many steps.
+fn is_conflict(
+    seeds: &[Seed],
+    rules: &[RuleInst],
+    conflict: &Conflict,
+    place: BytePlace,
+    lengths: (usize, usize),
+) -> bool {
+    let first = Fact {
+        place,
+        label: conflict.first,
+    };
+    let second = Fact {
+        place,
+        label: conflict.second,
+    };
+    conflict.place == place
+        && conflict.chain1.steps.len() == lengths.0
+        && conflict.chain2.steps.len() == lengths.1
+        && check_chain(seeds, rules, &conflict.chain1, first)
+        && check_chain(seeds, rules, &conflict.chain2, second)
+}
+
+#[test]
+fn the_chains_of_a_moved_group_are_short(rt: HostRuntime) -> Result<(), Fail> {
+    let alloc = rt.alloc();
+    let mut seeds = Vec::new(alloc);
+    for item in 0..50 {
+        seeds.push(seed(fact(0, item * 6, Label::Tens), item + 2))?;
+        seeds.push(seed(fact(0, item * 6 + 1, Label::Units), item + 2))?;
+    }
+    let mut rules = Vec::new(alloc);
+    rules.push(group(0, 1, 300))?;
+    rules.push(group(1, 2, 300))?;
+    rules.push(group(2, 0, 300))?;
+    rules.push(give(fact(2, 60, Label::Plain)))?;
+    let labelling = spread(alloc, &seeds, &rules)?;
+    let list = conflicts(alloc, &seeds, &rules, &labelling)?;
+    let list = list.items();
+    assert_eq!(rt; list.len(), 3);
+    assert!(rt;
+        is_conflict(
+            &seeds,
+            &rules,
+            &list[0],
+            fact(0, 60, Label::Tens).place,
+            (1, 2)
+        )
+    );
+    assert!(rt;
+        is_conflict(
+            &seeds,
+            &rules,
+            &list[1],
+            fact(1, 60, Label::Tens).place,
+            (2, 2)
+        )
+    );
+    assert!(rt;
+        is_conflict(
+            &seeds,
+            &rules,
+            &list[2],
+            fact(2, 60, Label::Tens).place,
+            (2, 1)
+        )
+    );
+    Ok(())
+}
+
+#[test]
+fn the_chains_over_a_heading_of_two_reports_are_short(rt: HostRuntime) -> Result<(), Fail> {
+    let alloc = rt.alloc();
+    let seeds = [seed(fact(0, 0, Label::Tens), 2)];
+    let mut rules = Vec::new(alloc);
+    for report in 2..40 {
+        rules.push(group(1, report, 6))?;
+        rules.push(group(report, report + 1, 6))?;
+    }
+    rules.push(group(0, 1, 6))?;
+    rules.push(give(fact(20, 0, Label::Plain)))?;
+    let labelling = spread(alloc, &seeds, &rules)?;
+    let list = conflicts(alloc, &seeds, &rules, &labelling)?;
+    let list = list.items();
+    assert_eq!(rt; list.len(), 41);
+    assert!(rt;
+        is_conflict(
+            &seeds,
+            &rules,
+            &list[0],
+            fact(0, 0, Label::Tens).place,
+            (1, 3)
+        )
+    );
+    assert!(rt;
+        is_conflict(
+            &seeds,
+            &rules,
+            &list[1],
+            fact(1, 0, Label::Tens).place,
+            (2, 2)
+        )
+    );
+    assert!(rt;
+        is_conflict(
+            &seeds,
+            &rules,
+            &list[20],
+            fact(20, 0, Label::Tens).place,
+            (3, 1)
+        )
+    );
     Ok(())
 }
