@@ -1,20 +1,15 @@
-ghost use Rattle.std.specs.Prelude.{All};
+ghost use Rattle.std.specs.Prelude.{IfOk, All};
 ghost use Rattle.year_labels.specs.Forms.{IsFit};
+ghost use Rattle.conflict_chain.specs.Chains.{IsChain};
 
 use crate::follows::follows;
-use crate::{Chain, ChainStep, Why};
+use crate::rule_index::{RuleIndex, spans_of};
+use crate::{Chain, ChainStep, Why, check_chain};
 use label_spread::{derive, index_in};
 use std::alloc::Global;
 use std::collections::{BTreeMap, BTreeSet};
 use y2k_base::{BytePlace, List, Memory, Span};
-use year_labels::{Fact, Label, RuleForm, RuleInst, Seed, View};
-
-/// The facts of a labelling in the order in which they were found, as steps whose reasons are still to be found.
-#[derive(Drop)]
-pub(crate) struct Order {
-    steps: Vec<ChainStep>,
-    numbers: BTreeMap<Fact, u32>,
-}
+use year_labels::{Fact, Label, RuleForm, RuleInst, Seed};
 
 /// Why a fact holds, and the numbers of the facts that it follows from, rising.
 #[derive(Drop)]
@@ -23,116 +18,180 @@ struct Reason {
     from: Vec<u32>,
 }
 
+/// The facts of a labelling, numbered in the order in which they were found, with the reasons that have been asked
+/// for so far.
+#[derive(Drop)]
+pub(crate) struct Order {
+    facts: Vec<ChainStep>,
+    numbers: BTreeMap<Fact, u32>,
+    rows: BTreeMap<Fact, u32>,
+    index: RuleIndex,
+    reasons: BTreeMap<u32, Reason>,
+}
+
 impl Order {
     pub(crate) fn new(alloc: Global, seeds: &[Seed], rules: &[RuleInst]) -> Result<Order, Memory>
         requires { All (λ r. IsFit r.form) rules.now }
     {
-        let facts = derive(alloc, seeds, rules)?;
-        let facts = facts.items();
-        let mut steps = Vec::new(alloc);
-        let mut numbers = BTreeMap::new(alloc);
-        for i in 0..facts.len() {
-            let fact = facts[i];
-            if numbers.contains_key(&fact) {
-                continue;
-            }
-            let number = u32::try_from(steps.len()).map_err(|_| Memory)?;
-            numbers.insert(fact, number)?;
-            steps.push(ChainStep {
-                fact,
-                why: Why::Seed(0),
-                from: List::new(alloc),
-            })?;
+        let found = derive(alloc, seeds, rules)?;
+        let mut order = Order {
+            facts: Vec::new(alloc),
+            numbers: BTreeMap::new(alloc),
+            rows: rows_of(alloc, seeds)?,
+            index: RuleIndex::new(alloc, rules)?,
+            reasons: BTreeMap::new(alloc),
+        };
+        let found = found.items();
+        for i in 0..found.len() {
+            order.add_fact(alloc, found[i])?;
         }
-        Ok(Order { steps, numbers })
+        Ok(order)
+    }
+
+    /// Gives the fact the next number, unless it has one.
+    fn add_fact(&mut self, alloc: Global, fact: Fact) -> Result<(), Memory> {
+        if self.numbers.contains_key(&fact) {
+            return Ok(());
+        }
+        let number = u32::try_from(self.facts.len()).map_err(|_| Memory)?;
+        self.numbers.insert(fact, number)?;
+        self.facts.push(ChainStep {
+            fact,
+            why: Why::Seed(0),
+            from: List::new(alloc),
+        })?;
+        Ok(())
     }
 
     /// The chain to the fact that has only the steps that it needs.
     pub(crate) fn chain_to(
-        &self,
+        &mut self,
         alloc: Global,
         seeds: &[Seed],
         rules: &[RuleInst],
         fact: Fact,
     ) -> Result<Chain, Memory>
         requires { All (λ r. IsFit r.form) rules.now }
+        ensures { IfOk result (λ chain. IsChain seeds.now rules.now chain.steps fact) }
     {
-        let last = match self.numbers.get(&fact) {
-            Some(number) => *number,
-            None => return Err(Memory),
-        };
+        let numbers = self.needed_for(alloc, rules, fact)?;
+        let chain = self.chain_of(alloc, &numbers)?;
+        if check_chain(seeds, rules, &chain, fact) {
+            Ok(chain)
+        } else {
+            Err(Memory)
+        }
+    }
+
+    /// The numbers, rising, of the facts that the fact needs, and its own.
+    fn needed_for(
+        &mut self,
+        alloc: Global,
+        rules: &[RuleInst],
+        fact: Fact,
+    ) -> Result<Vec<u32>, Memory>
+        requires { All (λ r. IsFit r.form) rules.now }
+    {
         let mut needed = BTreeSet::new(alloc);
-        needed.insert(last)?;
-        let mut reasons = BTreeMap::new(alloc);
-        for _ in 0..self.steps.len() {
+        needed.insert(self.number_of(fact)?)?;
+        let mut numbers = Vec::new(alloc);
+        for _ in 0..self.facts.len() {
             let number = match needed.pop_last() {
                 Some(number) => number,
                 None => break,
             };
-            let reason = self.reason_of(alloc, seeds, rules, number)?;
-            for i in 0..reason.from.len() {
-                needed.insert(reason.from[i])?;
-            }
-            reasons.insert(number, reason)?;
+            self.find_reason(alloc, rules, number)?;
+            self.add_needed(number, &mut needed)?;
+            numbers.push(number)?;
         }
-        self.chain_of(alloc, reasons)
+        numbers.reverse();
+        Ok(numbers)
     }
 
-    /// The chain of these steps, numbered anew.
-    fn chain_of(&self, alloc: Global, reasons: BTreeMap<u32, Reason>) -> Result<Chain, Memory> {
-        let mut numbers = Vec::new(alloc);
-        for (number, _) in &reasons {
-            numbers.push(*number)?;
+    fn number_of(&self, fact: Fact) -> Result<u32, Memory> {
+        match self.numbers.get(&fact) {
+            Some(number) => Ok(*number),
+            None => Err(Memory),
         }
-        let mut steps = List::new(alloc);
-        for (number, reason) in reasons {
-            let mut from = List::new(alloc);
-            for i in 0..reason.from.len() {
-                match numbers.binary_search(&reason.from[i]) {
-                    Ok(at) => from.push(u32::try_from(at).map_err(|_| Memory)?)?,
-                    Err(_) => return Err(Memory),
+    }
+
+    fn fact_at(&self, number: u32) -> Result<Fact, Memory> {
+        match self.facts.get(number as usize) {
+            Some(step) => Ok(step.fact),
+            None => Err(Memory),
+        }
+    }
+
+    /// Adds the numbers of the facts that the fact of that number follows from.
+    fn add_needed(&self, number: u32, needed: &mut BTreeSet<u32>) -> Result<(), Memory> {
+        match self.reasons.get(&number) {
+            Some(reason) => {
+                for i in 0..reason.from.len() {
+                    needed.insert(reason.from[i])?;
                 }
+                Ok(())
             }
-            steps.push(ChainStep {
-                fact: self.steps[number as usize].fact,
-                why: reason.why,
-                from,
-            })?;
+            None => Err(Memory),
+        }
+    }
+
+    /// The chain of the facts of these numbers, which are rising.
+    fn chain_of(&self, alloc: Global, numbers: &[u32]) -> Result<Chain, Memory> {
+        let mut steps = List::new(alloc);
+        for i in 0..numbers.len() {
+            let step = self.step_of(alloc, numbers, numbers[i])?;
+            steps.push(step)?;
         }
         Ok(Chain { steps })
     }
 
-    /// A seed of the fact of that number, or else the rule whose last premise was found first.
-    fn reason_of(
-        &self,
+    /// The step of the fact of that number, where the steps of a chain are these numbers'.
+    fn step_of(&self, alloc: Global, numbers: &[u32], number: u32) -> Result<ChainStep, Memory> {
+        let fact = self.fact_at(number)?;
+        match self.reasons.get(&number) {
+            Some(reason) => {
+                let why = reason.why;
+                let from = places_in(alloc, numbers, &reason.from)?;
+                Ok(ChainStep { fact, why, from })
+            }
+            None => Err(Memory),
+        }
+    }
+
+    /// Finds the reason of the fact of that number, unless that was done before.
+    fn find_reason(
+        &mut self,
         alloc: Global,
-        seeds: &[Seed],
         rules: &[RuleInst],
         number: u32,
-    ) -> Result<Reason, Memory>
+    ) -> Result<(), Memory>
         requires { All (λ r. IsFit r.form) rules.now }
     {
-        let fact = self.steps[number as usize].fact;
-        for i in 0..seeds.len() {
-            if seeds[i].fact == fact {
-                let why = Why::Seed(seeds[i].row);
-                let from = Vec::new(alloc);
-                return Ok(Reason { why, from });
-            }
+        if self.reasons.contains_key(&number) {
+            return Ok(());
         }
-        let mut best: Option<Reason> = None;
-        for i in 0..rules.len() {
-            if !looks_at(&rules[i].form, fact.place) {
-                continue;
+        let reason = self.reason_of(alloc, rules, number)?;
+        self.reasons.insert(number, reason)?;
+        Ok(())
+    }
+
+    /// A seed of the fact of that number, or else the rule whose last premise was found first.
+    fn reason_of(&self, alloc: Global, rules: &[RuleInst], number: u32) -> Result<Reason, Memory>
+        requires { All (λ r. IsFit r.form) rules.now }
+    {
+        let fact = self.fact_at(number)?;
+        if let Some(row) = self.rows.get(&fact) {
+            let why = Why::Seed(*row);
+            let from = Vec::new(alloc);
+            return Ok(Reason { why, from });
+        }
+        let indices = self.index.rules_at(alloc, fact.place)?;
+        let mut best = None;
+        for i in 0..indices.len() {
+            match self.reason_by(alloc, rules, indices[i], number, fact)? {
+                Some(reason) => best = Some(earlier(best, reason)),
+                None => {}
             }
-            let from = self.grounds(alloc, &rules[i].form, number, fact)?;
-            if !follows(&rules[i].form, &self.steps, &from, fact) {
-                continue;
-            }
-            let from = self.least_grounds(alloc, &rules[i].form, from, fact)?;
-            let why = Why::Rule(u32::try_from(i).map_err(|_| Memory)?);
-            let reason = Reason { why, from };
-            best = Some(earlier(best, reason));
         }
         match best {
             Some(reason) => Ok(reason),
@@ -140,34 +199,55 @@ impl Order {
         }
     }
 
-    /// The numbers, rising, of the facts before that one which the rule looks at.
+    /// That the fact follows by the rule of that index from those before it, if it does.
+    fn reason_by(
+        &self,
+        alloc: Global,
+        rules: &[RuleInst],
+        index: u32,
+        number: u32,
+        fact: Fact,
+    ) -> Result<Option<Reason>, Memory>
+        requires { All (λ r. IsFit r.form) rules.now }
+    {
+        match rules.get(index as usize) {
+            Some(rule) => {
+                let grounds = self.grounds(alloc, &rule.form, number, fact.place)?;
+                if follows(&rule.form, &self.facts, &grounds, fact) {
+                    let from = self.least_grounds(alloc, &rule.form, grounds, fact)?;
+                    let why = Why::Rule(index);
+                    Ok(Some(Reason { why, from }))
+                } else {
+                    Ok(None)
+                }
+            }
+            None => Ok(None),
+        }
+    }
+
+    /// The numbers, rising, of the facts before that one which the rule looks at for a fact of the byte.
     fn grounds(
         &self,
         alloc: Global,
         form: &RuleForm,
         number: u32,
-        fact: Fact,
+        place: BytePlace,
     ) -> Result<Vec<u32>, Memory> {
         let mut found = BTreeSet::new(alloc);
         match form {
-            RuleForm::Give { .. } => {}
-            RuleForm::GiveDigit { view, .. } => self.add_view(view, number, &mut found)?,
             RuleForm::Alike { a, b } => {
-                self.add_twin(*a, *b, fact.place, number, &mut found)?;
-                self.add_twin(*b, *a, fact.place, number, &mut found)?;
+                self.add_twin(*a, *b, place, number, &mut found)?;
+                self.add_twin(*b, *a, place, number, &mut found)?;
             }
-            RuleForm::Digits { a, b } => {
-                self.add_view(a, number, &mut found)?;
-                self.add_view(b, number, &mut found)?;
-            }
-            RuleForm::Fill { view, .. } => self.add_view(view, number, &mut found)?,
-            RuleForm::Sum { a, b, c } | RuleForm::Difference { a, b, c } => {
-                self.add_view(a, number, &mut found)?;
-                self.add_view(b, number, &mut found)?;
-                self.add_view(c, number, &mut found)?;
+            _ => {
+                let spans = spans_of(alloc, form)?;
+                for i in 0..spans.len() {
+                    self.add_span(spans[i], number, &mut found)?;
+                }
             }
         }
-        Ok(found.into_iter().collect(alloc)?)
+        let grounds = found.into_iter().collect(alloc)?;
+        Ok(grounds)
     }
 
     /// Leaves out each ground, from the last on, without which the fact still follows.
@@ -175,42 +255,24 @@ impl Order {
         &self,
         alloc: Global,
         form: &RuleForm,
-        from: Vec<u32>,
+        grounds: Vec<u32>,
         fact: Fact,
     ) -> Result<Vec<u32>, Memory>
         requires { IsFit form.now }
     {
-        let mut kept = from;
-        for back in 0..kept.len() {
-            let at = kept.len() - 1 - back.min(kept.len() - 1);
-            let mut fewer = Vec::new(alloc);
-            for i in 0..kept.len() {
-                if i != at {
-                    fewer.push(kept[i])?;
-                }
-            }
-            if follows(form, &self.steps, &fewer, fact) {
+        let mut kept = grounds;
+        for at in (0..kept.len()).rev() {
+            let fewer = without(alloc, &kept, at)?;
+            if follows(form, &self.facts, &fewer, fact) {
                 kept = fewer;
             }
         }
         Ok(kept)
     }
 
-    fn add_view(&self, view: &View, number: u32, found: &mut BTreeSet<u32>) -> Result<(), Memory> {
-        match view {
-            View::Bytes { span, .. } => self.add_span(*span, number, found),
-            View::Packed { span, .. } => self.add_span(*span, number, found),
-            View::Plain => Ok(()),
-        }
-    }
-
     fn add_span(&self, span: Span, number: u32, found: &mut BTreeSet<u32>) -> Result<(), Memory> {
-        for i in 0..span.length {
-            let place = BytePlace {
-                area: span.area,
-                offset: span.offset + i,
-            };
-            self.add_place(place, number, found)?;
+        for index in 0..span.length {
+            self.add_byte(span, index, number, found)?;
         }
         Ok(())
     }
@@ -225,24 +287,25 @@ impl Order {
         found: &mut BTreeSet<u32>,
     ) -> Result<(), Memory> {
         match index_in(second, place) {
-            Some(index) => {
-                let place = BytePlace {
-                    area: first.area,
-                    offset: first.offset + index,
-                };
-                self.add_place(place, number, found)
-            }
+            Some(index) => self.add_byte(first, index, number, found),
             None => Ok(()),
         }
     }
 
-    /// Adds the numbers below that one of the facts of the byte.
-    fn add_place(
+    /// Adds the numbers below that one of the facts of that byte of the span.
+    fn add_byte(
         &self,
-        place: BytePlace,
+        span: Span,
+        index: u32,
         number: u32,
         found: &mut BTreeSet<u32>,
     ) -> Result<(), Memory> {
+        let offset = match span.offset.checked_add(index) {
+            Some(offset) => offset,
+            None => return Ok(()),
+        };
+        let area = span.area;
+        let place = BytePlace { area, offset };
         let low = Fact {
             place,
             label: Label::Tens,
@@ -261,25 +324,39 @@ impl Order {
     }
 }
 
-/// Whether the byte is one of those that the rule gives facts of.
-fn looks_at(form: &RuleForm, place: BytePlace) -> bool {
-    match form {
-        RuleForm::Give { fact } => fact.place == place,
-        RuleForm::GiveDigit { view, .. } => has_byte(view, place),
-        RuleForm::Alike { a, b } => index_in(*a, place).is_some() || index_in(*b, place).is_some(),
-        RuleForm::Digits { a, b } => has_byte(a, place) || has_byte(b, place),
-        RuleForm::Fill { view, .. } => has_byte(view, place),
-        RuleForm::Sum { a, b, c } | RuleForm::Difference { a, b, c } => {
-            has_byte(a, place) || has_byte(b, place) || has_byte(c, place)
+/// The first row of each seed's fact.
+fn rows_of(alloc: Global, seeds: &[Seed]) -> Result<BTreeMap<Fact, u32>, Memory> {
+    let mut rows = BTreeMap::new(alloc);
+    for i in 0..seeds.len() {
+        let Seed { fact, row } = seeds[i];
+        if !rows.contains_key(&fact) {
+            rows.insert(fact, row)?;
         }
     }
+    Ok(rows)
 }
 
-fn has_byte(view: &View, place: BytePlace) -> bool {
-    match view {
-        View::Bytes { span, .. } | View::Packed { span, .. } => index_in(*span, place).is_some(),
-        View::Plain => false,
+/// Where the first numbers stand among the others, which are rising.
+fn places_in(alloc: Global, numbers: &[u32], named: &[u32]) -> Result<List<u32>, Memory> {
+    let mut places = List::new(alloc);
+    for i in 0..named.len() {
+        match numbers.binary_search(&named[i]) {
+            Ok(at) => places.push(u32::try_from(at).map_err(|_| Memory)?)?,
+            Err(_) => return Err(Memory),
+        }
     }
+    Ok(places)
+}
+
+/// The numbers but that of the index.
+fn without(alloc: Global, numbers: &[u32], index: usize) -> Result<Vec<u32>, Memory> {
+    let mut others = Vec::new(alloc);
+    for i in 0..numbers.len() {
+        if i != index {
+            others.push(numbers[i])?;
+        }
+    }
+    Ok(others)
 }
 
 /// The reason whose last premise was found first; of two such the first.
