@@ -1,4 +1,4 @@
-ghost use Rattle.std.specs.Prelude.{◌≡◌, ◌↔◌, ◌<◌, ◌+◌, IsTrue, IfOk, OnOk, IfSome, IfNone, All, length};
+ghost use Rattle.std.specs.Prelude.{◌≡◌, ◌↔◌, ◌<◌, ◌+◌, ◌-◌, ◌^◌, IsTrue, IfOk, OnOk, IfSome, IfNone, All};
 ghost use Rattle.year_labels.specs.Derivation.{AreDerivable};
 ghost use Rattle.year_labels.specs.Facts.{fact_of};
 ghost use Rattle.year_labels.specs.Forms.{IsFit};
@@ -55,7 +55,7 @@ fn add_at(
     list: &mut List<Conflict>,
 ) -> Result<(), Memory>
     requires fit { All (λ r. IsFit r.form) rules.now }
-    requires within { index < length labelling.now }
+    requires small { index < 2 ^ 64 - 1 }
     requires before { AreConflictsUpTo seeds.now rules.now labelling.now index list.old }
     ensures { OnOk result (AreConflictsUpTo seeds.now rules.now labelling.now (index + 1) list.new) }
 {
@@ -104,7 +104,7 @@ fn conflict_of(
 
 /// The clash of the fact of that index and the next, if they are the first two of one byte.
 fn clash_at(labelling: &Labelling, index: usize) -> Option<Clash>
-    requires { index < length labelling.now }
+    requires { index < 2 ^ 64 - 1 }
     ensures ordered { IsAscending labelling.now }
     ensures found { IfSome result (λ clash. AreFirstTwo labelling.now index clash.place clash.first clash.second) }
     ensures none { IfNone result (AreOfOneByte labelling.now index → IsLaterOne labelling.now index) }
@@ -142,7 +142,7 @@ fn clash_of(first: Fact, second: Fact) -> Option<Clash>
 
 /// Whether the fact before that index is of the same byte.
 fn is_later_one(labelling: &Labelling, index: usize) -> bool
-    requires { index < length labelling.now }
+    requires { index < 2 ^ 64 - 1 }
     ensures { IsTrue result ↔ IsLaterOne labelling.now index }
 {
     if index == 0 {
@@ -154,7 +154,7 @@ fn is_later_one(labelling: &Labelling, index: usize) -> bool
 
 /// Whether the fact of that index and the next are of one byte.
 fn are_of_one_byte(labelling: &Labelling, index: usize) -> bool
-    requires { index < length labelling.now }
+    requires { index < 2 ^ 64 - 1 }
     ensures { IsTrue result ↔ AreOfOneByte labelling.now index }
 {
     match labelling.at(index) {

@@ -159,12 +159,7 @@ impl Order {
     }
 
     /// Finds the reason of the fact of that number, unless that was done before.
-    fn find_reason(
-        &mut self,
-        alloc: Global,
-        rules: &[RuleInst],
-        number: u32,
-    ) -> Result<(), Memory>
+    fn find_reason(&mut self, alloc: Global, rules: &[RuleInst], number: u32) -> Result<(), Memory>
         requires { All (λ r. IsFit r.form) rules.now }
     {
         if self.reasons.contains_key(&number) {

@@ -42,12 +42,7 @@ impl RuleIndex {
         Ok(rules)
     }
 
-    fn slots_of(
-        &self,
-        alloc: Global,
-        area: AreaId,
-        block: u32,
-    ) -> Result<Vec<RuleSlot>, AllocError>
+    fn slots_of(&self, alloc: Global, area: AreaId, block: u32) -> Result<Vec<RuleSlot>, AllocError>
         requires { block < 2 ^ 32 - 1 }
     {
         let low = RuleSlot {
