@@ -1,4 +1,4 @@
-ghost use Rattle.std.specs.Prelude.{IfOk, All};
+ghost use Rattle.std.specs.Prelude.{IfOk, IfSome, OnOk, All, Contains};
 ghost use Rattle.year_labels.specs.Forms.{IsFit};
 ghost use Rattle.conflict_chain.specs.Chains.{IsChain};
 
@@ -24,7 +24,7 @@ struct Reason {
 pub(crate) struct Order {
     facts: Vec<ChainStep>,
     numbers: BTreeMap<Fact, u32>,
-    rows: BTreeMap<Fact, u32>,
+    seeded: BTreeMap<Fact, u32>,
     index: RuleIndex,
     reasons: BTreeMap<u32, Reason>,
 }
@@ -37,7 +37,7 @@ impl Order {
         let mut order = Order {
             facts: Vec::new(alloc),
             numbers: BTreeMap::new(alloc),
-            rows: rows_of(alloc, seeds)?,
+            seeded: seeded_by(alloc, seeds)?,
             index: RuleIndex::new(alloc, rules)?,
             reasons: BTreeMap::new(alloc),
         };
@@ -63,7 +63,10 @@ impl Order {
         Ok(())
     }
 
-    /// The chain to the fact that has only the steps that it needs.
+    /// The chain to the fact that has only the steps that it needs. It is checked before it is given, against the
+    /// seeds of its own facts, so that this takes no longer where there are many others. Each fact of the labelling
+    /// has a reason among the facts found before it, so the checks and look-ups here never fail; that they don't is
+    /// not proved, and the answer would be `Memory`.
     pub(crate) fn chain_to(
         &mut self,
         alloc: Global,
@@ -74,12 +77,48 @@ impl Order {
         requires { All (λ r. IsFit r.form) rules.now }
         ensures { IfOk result (λ chain. IsChain seeds.now rules.now chain.steps fact) }
     {
-        let numbers = self.needed_for(alloc, rules, fact)?;
+        let numbers = self.needed_for(alloc, seeds, rules, fact)?;
+        let used = self.seeds_of(alloc, seeds, &numbers)?;
         let chain = self.chain_of(alloc, &numbers)?;
-        if check_chain(seeds, rules, &chain, fact) {
+        if check_chain(used.as_slice(), rules, &chain, fact) {
             Ok(chain)
         } else {
             Err(Memory)
+        }
+    }
+
+    /// A seed of each of these facts that has one.
+    fn seeds_of(&self, alloc: Global, seeds: &[Seed], numbers: &[u32]) -> Result<Vec<Seed>, Memory>
+        ensures { IfOk result (λ used. All (λ seed. Contains seeds.now seed) used.items) }
+    {
+        let mut used = Vec::new(alloc);
+        for i in 0..numbers.len() {
+            let fact = self.fact_at(numbers[i])?;
+            self.add_seed(seeds, fact, &mut used)?;
+        }
+        Ok(used)
+    }
+
+    fn add_seed(&self, seeds: &[Seed], fact: Fact, used: &mut Vec<Seed>) -> Result<(), Memory>
+        requires { All (λ seed. Contains seeds.now seed) used.old.items }
+        ensures { OnOk result (All (λ seed. Contains seeds.now seed) used.new.items) }
+    {
+        match self.seed_of(seeds, fact) {
+            Some(seed) => {
+                used.push(seed)?;
+                Ok(())
+            }
+            None => Ok(()),
+        }
+    }
+
+    /// The first seed of the fact, if there is one.
+    fn seed_of(&self, seeds: &[Seed], fact: Fact) -> Option<Seed>
+        ensures { IfSome result (λ seed. Contains seeds.now seed) }
+    {
+        match self.seeded.get(&fact) {
+            Some(index) => seed_at(seeds, *index as usize),
+            None => None,
         }
     }
 
@@ -87,6 +126,7 @@ impl Order {
     fn needed_for(
         &mut self,
         alloc: Global,
+        seeds: &[Seed],
         rules: &[RuleInst],
         fact: Fact,
     ) -> Result<Vec<u32>, Memory>
@@ -100,7 +140,7 @@ impl Order {
                 Some(number) => number,
                 None => break,
             };
-            self.find_reason(alloc, rules, number)?;
+            self.find_reason(alloc, seeds, rules, number)?;
             self.add_needed(number, &mut needed)?;
             numbers.push(number)?;
         }
@@ -159,24 +199,36 @@ impl Order {
     }
 
     /// Finds the reason of the fact of that number, unless that was done before.
-    fn find_reason(&mut self, alloc: Global, rules: &[RuleInst], number: u32) -> Result<(), Memory>
+    fn find_reason(
+        &mut self,
+        alloc: Global,
+        seeds: &[Seed],
+        rules: &[RuleInst],
+        number: u32,
+    ) -> Result<(), Memory>
         requires { All (λ r. IsFit r.form) rules.now }
     {
         if self.reasons.contains_key(&number) {
             return Ok(());
         }
-        let reason = self.reason_of(alloc, rules, number)?;
+        let reason = self.reason_of(alloc, seeds, rules, number)?;
         self.reasons.insert(number, reason)?;
         Ok(())
     }
 
     /// A seed of the fact of that number, or else the rule whose last premise was found first.
-    fn reason_of(&self, alloc: Global, rules: &[RuleInst], number: u32) -> Result<Reason, Memory>
+    fn reason_of(
+        &self,
+        alloc: Global,
+        seeds: &[Seed],
+        rules: &[RuleInst],
+        number: u32,
+    ) -> Result<Reason, Memory>
         requires { All (λ r. IsFit r.form) rules.now }
     {
         let fact = self.fact_at(number)?;
-        if let Some(row) = self.rows.get(&fact) {
-            let why = Why::Seed(*row);
+        if let Some(seed) = self.seed_of(seeds, fact) {
+            let why = Why::Seed(seed.row);
             let from = Vec::new(alloc);
             return Ok(Reason { why, from });
         }
@@ -319,16 +371,27 @@ impl Order {
     }
 }
 
-/// The first row of each seed's fact.
-fn rows_of(alloc: Global, seeds: &[Seed]) -> Result<BTreeMap<Fact, u32>, Memory> {
-    let mut rows = BTreeMap::new(alloc);
+/// The index of the first seed of each fact that has one.
+fn seeded_by(alloc: Global, seeds: &[Seed]) -> Result<BTreeMap<Fact, u32>, Memory> {
+    let mut seeded = BTreeMap::new(alloc);
     for i in 0..seeds.len() {
-        let Seed { fact, row } = seeds[i];
-        if !rows.contains_key(&fact) {
-            rows.insert(fact, row)?;
+        let fact = seeds[i].fact;
+        if !seeded.contains_key(&fact) {
+            let index = u32::try_from(i).map_err(|_| Memory)?;
+            seeded.insert(fact, index)?;
         }
     }
-    Ok(rows)
+    Ok(seeded)
+}
+
+fn seed_at(seeds: &[Seed], index: usize) -> Option<Seed>
+    ensures { IfSome result (λ seed. Contains seeds.now seed) }
+{
+    if index < seeds.len() {
+        Some(seeds[index])
+    } else {
+        None
+    }
 }
 
 /// Where the first numbers stand among the others, which are rising.
