@@ -22,7 +22,9 @@ struct Clash {
 }
 
 /// One conflict for each byte with unlike labels, in order of places, with its two least labels. Its chains are
-/// short: each has only the steps that it needs, and takes what was found first.
+/// short: each has only the steps that it needs, and takes what was found first. Each chain is checked before it is
+/// given. The check can't fail on the labelling of these seeds and rules, but that is not proved: the answer would be
+/// `Memory`.
 pub fn conflicts(
     alloc: Global,
     seeds: &[Seed],
