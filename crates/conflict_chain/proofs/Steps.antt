@@ -1,15 +1,17 @@
 -- The facts of named steps.
-use Rattle.std.proofs.Common.{◌≡◌, ◌⊎◌, ◌↔◌, Bool, IsTrue, inl, inr, arith, ℕ, ◌+◌, ◌<◌, length, get_or, List, [], ◌∷◌, refl, sym, ap, ◌∙◌, subst, Contains, Option, Some, None, slice_get}
+use Rattle.std.proofs.Common.{All, take, ◌≡◌, ◌⊎◌, ◌↔◌, Bool, IsTrue, inl, inr, arith, ℕ, ◌+◌, ◌<◌, length, get_or, List, [], ◌∷◌, refl, sym, ap, ◌∙◌, subst, Contains, Option, Some, None, slice_get}
 use Rattle.std.proofs.lemmas.Bool.{cases_lt}
 use Rattle.std.proofs.lemmas.List.{get_or_default}
 use Rattle.std.proofs.lemmas.Option.{slice_get_read, slice_get_within, get_or_from_slice_get}
-use Rattle.std.proofs.lemmas.List.Elements.{Contains-append_left, Contains-append_right, Contains-append_cases, Contains-push, Contains-push_cases}
+use Rattle.std.proofs.lemmas.List.Elements.{All-contains, Contains-append_left, Contains-append_right, Contains-append_cases, Contains-push, Contains-push_cases}
 use Rattle.year_labels.specs.declared.label.Fact.{Fact}
 use Rattle.year_labels.specs.declared.label.Label.TheVariants as labels
 use Rattle.year_labels.specs.declared.rule.RuleInst.{RuleInst}
 use Rattle.year_labels.specs.Forms.{Follows}
 use Rattle.conflict_chain.specs.declared.chain.Why.TheVariants as whys
-use Rattle.conflict_chain.specs.Chains.{AreEarlier, IsByRule}
+use Rattle.conflict_chain.specs.Chains.{AreEarlier, IsByRule, HasReason, IsChain}
+use Rattle.conflict_chain.specs.declared.chain.Why.{Why}
+use Rattle.year_labels.specs.declared.label.Seed.{Seed}
 use Rattle.conflict_chain.specs.declared.chain.ChainStep.{ChainStep}
 use Rattle.conflict_chain.specs.Named.{fact_of_step, named, IsFactOf}
 
@@ -87,3 +89,15 @@ none_below_more P i before here k low h = elim (cases_lt k i) [
   | inl less ↦ before k less h
   | inr up ↦ let is : k ≡ i = omega arith in here (subst P is h)
 ]
+
+reason_of_more : (used seeds : List Seed) (rules : List RuleInst) (earlier : List ChainStep) (why : Why) (from : List ℕ) (fact : Fact) → All (Contains seeds) used → HasReason used rules earlier why from fact → HasReason seeds rules earlier why from fact
+reason_of_more used seeds rules earlier (whys.Seed row) from fact all h = (h.0, All-contains (Contains seeds) used h.0 all h.1, h.2)
+reason_of_more used seeds rules earlier (whys.Rule index) from fact all h = h
+
+-- a chain from some of the seeds is one from all
+pub of_more_seeds : (used seeds : List Seed) (rules : List RuleInst) (steps : List ChainStep) (fact : Fact) → All (Contains seeds) used → IsChain used rules steps fact → IsChain seeds rules steps fact
+of_more_seeds used seeds rules steps fact all chain = (
+  λ k d low. let step : ChainStep = get_or steps k d in reason_of_more used seeds rules (take k steps) step.why step.from step.fact all (chain.0 k d low),
+  chain.1,
+  chain.2,
+)

@@ -1,2 +1,4 @@
 pub mod Named
 pub mod Chains
+pub mod Conflicts
+pub mod Clashes

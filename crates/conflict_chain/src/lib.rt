@@ -2,10 +2,14 @@
 #![tactic(auto)]
 
 mod chain;
+mod clash;
 mod follows;
 mod gives;
 mod named;
+mod order;
+mod rule_index;
 #[cfg(test)]
 mod tests;
 
 pub use chain::{Chain, ChainStep, Conflict, Why, check_chain};
+pub use clash::conflicts;
