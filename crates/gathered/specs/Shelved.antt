@@ -12,7 +12,6 @@ use Rattle.program_texts.specs.Texts.{with_text, words_of, AreWhole, IsRefusedTe
 use Rattle.shelf.specs.Causes.{Rose}
 use Rattle.shelf.specs.Contents.{Files}
 use Rattle.text_load.specs.Texts.{HasText, HasLoadFault}
-use Rattle.text_load.specs.declared.LoadFault.{LoadFault}
 use Rattle.text_load.specs.declared.LoadFault.TheVariants as load
 use Rattle.gathered.specs.Portfolios.{IsPortfolio, IsRefusedOf}
 use Rattle.gathered.specs.declared.fault.GatherFault.{GatherFault}
