@@ -1,1 +1,3 @@
+mod Ready
+mod Rest
 mod Sound

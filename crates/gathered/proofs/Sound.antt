@@ -1,5 +1,5 @@
 -- What is read of texts is sound.
-use Rattle.std.proofs.Common.{◌≡◌, ℕ, ◌+◌, ◌≤◌, Bool, true, false, cond, nat_lt, List, [], ◌∷◌, length, Option, refl, sym, ap, ◌∙◌, subst, arith, ltb-false}
+use Rattle.std.proofs.Common.{◌≡◌, ℕ, ◌+◌, ◌≤◌, Bool, true, false, cond, nat_lt, List, [], ◌∷◌, Option, refl, ap, arith, ltb-false}
 use Rattle.std.proofs.lemmas.Bool.{true≢false}
 use Rattle.cobol_syntax.specs.declared.program.Program.{Program}
 use Rattle.copy_origins.specs.declared.books.Book.{Book}

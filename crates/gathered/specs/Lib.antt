@@ -1,2 +1,3 @@
 pub mod Portfolios
+pub mod Shelved
 pub mod Sound

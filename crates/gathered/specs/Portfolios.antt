@@ -1,5 +1,5 @@
 -- The portfolio that texts are, and why they are none.
-use Rattle.std.specs.Prelude.{◌≡◌, ◌⊎◌, ℕ, List, Option}
+use Rattle.std.specs.Prelude.{◌≡◌, ◌⊎◌, List, Option}
 use Rattle.y2k_base.specs.declared.text.Text.{Text}
 use Rattle.cobol_syntax.specs.declared.program.Program.{Program}
 use Rattle.data_layout.specs.declared.item.Layout.{Layout}

@@ -1,4 +1,6 @@
 ghost use Rattle.std.specs.Prelude.{◌≡◌, IfOk, IfErr};
+ghost use Rattle.std.specs.List.{AllByRecursion};
+ghost use Rattle.data_layout.specs.Index.{IsReady};
 ghost use Rattle.file_uses.specs.Names.{list_of};
 ghost use Rattle.file_uses.specs.Files as files;
 ghost use Rattle.program_texts.specs.Programs.{AreMembers, nothing};
@@ -41,6 +43,7 @@ pub fn assemble(
     ensures texts { IfOk result (λ gathered. gathered.texts ≡ texts) }
     ensures portfolio { IfOk result (λ gathered. spec.IsPortfolio texts.list (list_of files.entry) gathered.portfolio) }
     ensures sound { IfOk result (λ gathered. IsSound gathered.portfolio) }
+    ensures ready { IfOk result (λ gathered. AllByRecursion IsReady gathered.portfolio.layouts) }
     ensures fault { IfErr result (spec.IsRefused texts.list (list_of files.entry)) }
 {
     match read_texts(alloc, texts.list.items()) {
@@ -61,6 +64,7 @@ pub(crate) fn portfolio_of(
 ) -> Result<Portfolio, GatherFault>
     ensures portfolio { IfOk result (spec.IsPortfolioOf words.now (list_of files.entry)) }
     ensures sound { IfOk result IsSound }
+    ensures ready { IfOk result (λ portfolio. AllByRecursion IsReady portfolio.layouts) }
     ensures fault { IfErr result (spec.IsRefusedOf words.now (list_of files.entry)) }
 {
     match read_members(alloc, &words.books, words.sources.items()) {

@@ -3,8 +3,10 @@
 
 mod fault;
 mod gathering;
+mod shelved;
 #[cfg(test)]
 mod tests;
 
 pub use fault::GatherFault;
 pub use gathering::{Gathered, assemble};
+pub use shelved::gather;

@@ -1,7 +1,8 @@
 use super::*;
 use data_layout::{FileUse, Layout};
-use portfolio::Named;
+use portfolio::{Manifest, Named};
 use program_reader::RefusedKind;
+use shelf::MemoryShelf;
 use std::alloc::Global;
 use std::test::Fail;
 use y2k_base::{Bytes, List, Memory, Text, TextRole, Texts};
@@ -324,6 +325,247 @@ fn are_counts(layouts: &[Layout], counts: &[usize]) -> bool {
     for i in 0..counts.len() {
         if i < layouts.len() && layouts[i].items.len() != counts[i] {
             return false;
+        }
+    }
+    true
+}
+
+fn program_named(alloc: Global, id: &str, lines: &str) -> Result<Bytes, Fail> {
+    let whole = format!(in alloc;
+        "       ID DIVISION.\n       PROGRAM-ID. {id}.\n{lines}       PROCEDURE DIVISION.\n       MAIN-PARA.\n           STOP RUN.\n"
+    )?;
+    Ok(bytes_of(alloc, whole.as_str().as_bytes())?)
+}
+
+/// A manifest of programs alone.
+fn manifest_of(alloc: Global, programs: &[&str]) -> Result<Manifest, Memory> {
+    let mut names = List::new(alloc);
+    for name in programs {
+        names.push(bytes_of(alloc, name.as_bytes())?)?;
+    }
+    Ok(Manifest {
+        version: 2,
+        pivot: 50,
+        programs: names,
+        copybooks: List::new(alloc),
+        seeds: None,
+        window: List::new(alloc),
+        files: List::new(alloc),
+        jobs: List::new(alloc),
+    })
+}
+
+const COPIES_B: &str =
+    "       DATA DIVISION.\n       WORKING-STORAGE SECTION.\n           COPY B.\n";
+
+#[test]
+fn copybooks_are_gathered_before_programs(rt: HostRuntime) -> Result<(), Fail> {
+    let alloc = rt.alloc();
+    let mut shelf = MemoryShelf::new(alloc)?;
+    shelf.put("a/b.cpy", b"       01 A PIC X.\n")?;
+    shelf.put("a/P.cbl", program_named(alloc, "P", COPIES_B)?.items())?;
+    let mut manifest = manifest_of(alloc, &["P.cbl"])?;
+    manifest.copybooks.push(named(alloc, "B", "b.cpy")?)?;
+    assert!(rt; are_book_and_program(alloc, &manifest, &mut shelf));
+    Ok(())
+}
+
+fn are_book_and_program(alloc: Global, manifest: &Manifest, shelf: &mut MemoryShelf) -> bool {
+    match gather(alloc, manifest, "a/", 0, shelf) {
+        Ok(gathered) => match gathered.texts.list.items() {
+            [book, program] => {
+                book.role == TextRole::Book
+                    && book.name.items() == b"b.cpy".as_slice()
+                    && book.key.items() == b"B".as_slice()
+                    && program.role == TextRole::Program
+                    && program.name.items() == b"P.cbl".as_slice()
+                    && are_counts(gathered.portfolio.layouts.items(), &[1])
+            }
+            _ => false,
+        },
+        Err(_) => false,
+    }
+}
+
+fn is_missing(alloc: Global, manifest: &Manifest, shelf: &mut MemoryShelf, text: &[u8]) -> bool {
+    match gather(alloc, manifest, "a/", 0, shelf) {
+        Err(GatherFault::Missing(name)) => name.items() == text,
+        _ => false,
+    }
+}
+
+fn is_too_large(
+    alloc: Global,
+    manifest: &Manifest,
+    used: u64,
+    shelf: &mut MemoryShelf,
+    text: &[u8],
+) -> bool {
+    match gather(alloc, manifest, "", used, shelf) {
+        Err(GatherFault::TooLarge(name)) => name.items() == text,
+        _ => false,
+    }
+}
+
+fn is_failed(alloc: Global, manifest: &Manifest, shelf: &mut MemoryShelf, text: &[u8]) -> bool {
+    match gather(alloc, manifest, "a/", 0, shelf) {
+        Err(GatherFault::Shelf(name)) => name.items() == text,
+        _ => false,
+    }
+}
+
+#[test]
+fn a_text_that_is_not_on_the_shelf_is_missing_by_its_name(rt: HostRuntime) -> Result<(), Fail> {
+    let alloc = rt.alloc();
+    let mut shelf = MemoryShelf::new(alloc)?;
+    shelf.put("P.cbl", program_named(alloc, "P", "")?.items())?;
+    let manifest = manifest_of(alloc, &["P.cbl"])?;
+    assert!(rt; is_missing(alloc, &manifest, &mut shelf, b"P.cbl"));
+    assert!(rt; gather(alloc, &manifest, "", 0, &mut shelf).is_ok());
+    Ok(())
+}
+
+#[test]
+fn the_lines_of_a_text_come_before_the_next_text(rt: HostRuntime) -> Result<(), Fail> {
+    let alloc = rt.alloc();
+    let mut shelf = MemoryShelf::new(alloc)?;
+    shelf.put("a/P.cbl", b"      X\n")?;
+    let manifest = manifest_of(alloc, &["P.cbl", "Q.cbl"])?;
+    assert!(rt; is_bad_byte(alloc, &manifest, &mut shelf));
+    let manifest = manifest_of(alloc, &["Q.cbl", "P.cbl"])?;
+    assert!(rt; is_missing(alloc, &manifest, &mut shelf, b"Q.cbl"));
+    Ok(())
+}
+
+/// Whether the first text is refused for its indicator.
+fn is_bad_byte(alloc: Global, manifest: &Manifest, shelf: &mut MemoryShelf) -> bool {
+    match gather(alloc, manifest, "a/", 0, shelf) {
+        Err(GatherFault::Refused(refused)) => {
+            refused.kind == RefusedKind::BadByte && refused.at.file.0 == 0 && refused.at.line == 1
+        }
+        _ => false,
+    }
+}
+
+#[test]
+fn a_missing_text_comes_before_the_grammar_of_those_before_it(rt: HostRuntime) -> Result<(), Fail> {
+    let alloc = rt.alloc();
+    let mut shelf = MemoryShelf::new(alloc)?;
+    shelf.put("a/P.cbl", b"       CALL X.\n")?;
+    let manifest = manifest_of(alloc, &["P.cbl", "Q.cbl"])?;
+    assert!(rt; is_missing(alloc, &manifest, &mut shelf, b"Q.cbl"));
+    Ok(())
+}
+
+#[test]
+fn texts_have_four_million_bytes_at_most(rt: HostRuntime) -> Result<(), Fail> {
+    let alloc = rt.alloc();
+    let mut shelf = MemoryShelf::new(alloc)?;
+    let text = program_named(alloc, "P", "")?;
+    let length = text.len() as u64;
+    shelf.put("P.cbl", text.items())?;
+    let manifest = manifest_of(alloc, &["P.cbl"])?;
+    let left = 4_000_000_u64.saturating_sub(length);
+    assert!(rt; gather(alloc, &manifest, "", left, &mut shelf).is_ok());
+    assert!(rt;
+        is_too_large(
+            alloc,
+            &manifest,
+            left.saturating_add(1),
+            &mut shelf,
+            b"P.cbl"
+        )
+    );
+    Ok(())
+}
+
+#[test]
+fn bytes_are_counted_over_all_texts(rt: HostRuntime) -> Result<(), Fail> {
+    let alloc = rt.alloc();
+    let mut shelf = MemoryShelf::new(alloc)?;
+    let text = program_named(alloc, "P", "")?;
+    let length = text.len() as u64;
+    shelf.put("P.cbl", text.items())?;
+    shelf.put("Q.cbl", program_named(alloc, "Q", "")?.items())?;
+    let manifest = manifest_of(alloc, &["P.cbl", "Q.cbl"])?;
+    let left = 4_000_000_u64.saturating_sub(length);
+    assert!(rt; is_too_large(alloc, &manifest, left, &mut shelf, b"Q.cbl"));
+    Ok(())
+}
+
+#[test]
+fn a_fault_of_the_shelf_goes_by_the_name_in_the_call(rt: HostRuntime) -> Result<(), Fail> {
+    let alloc = rt.alloc();
+    for call in 1_u64..3 {
+        let mut shelf = MemoryShelf::new(alloc)?;
+        shelf.put("a/P.cbl", program_named(alloc, "P", "")?.items())?;
+        shelf.fail_on(call)?;
+        let manifest = manifest_of(alloc, &["P.cbl"])?;
+        assert!(rt; is_failed(alloc, &manifest, &mut shelf, b"a/P.cbl"));
+    }
+    Ok(())
+}
+
+#[test]
+fn the_data_files_of_a_manifest_are_the_known_ones(rt: HostRuntime) -> Result<(), Fail> {
+    let alloc = rt.alloc();
+    let mut shelf = MemoryShelf::new(alloc)?;
+    shelf.put("P.cbl", with_file(alloc, "P", "A", 80)?.bytes.items())?;
+    let mut manifest = manifest_of(alloc, &["P.cbl"])?;
+    assert!(rt; has_unknown(alloc, &manifest, &mut shelf, b"A"));
+    manifest.files.push(named(alloc, "A", "a.dat")?)?;
+    assert!(rt; gather(alloc, &manifest, "", 0, &mut shelf).is_ok());
+    Ok(())
+}
+
+fn has_unknown(alloc: Global, manifest: &Manifest, shelf: &mut MemoryShelf, file: &[u8]) -> bool {
+    match gather(alloc, manifest, "", 0, shelf) {
+        Err(GatherFault::FileUnknown(name)) => name.items() == file,
+        _ => false,
+    }
+}
+
+#[test]
+fn what_redefines_a_record_stands_in_its_bytes(rt: HostRuntime) -> Result<(), Fail> {
+    let alloc = rt.alloc();
+    let entries =
+        "       01  D PIC 9(6).\n       01  G REDEFINES D.\n           05  YY PIC 9(2).\n           05  MM PIC 9(2).\n           05  DD PIC 9(2).\n       01  M2 PIC X(2).\n";
+    let texts = one(alloc, with_storage(alloc, "P5", entries)?)?;
+    let places = [
+        (0, 0, 6),
+        (0, 0, 6),
+        (0, 0, 2),
+        (0, 2, 2),
+        (0, 4, 2),
+        (1, 0, 2),
+    ];
+    assert!(rt; has_places(alloc, texts, &places));
+    Ok(())
+}
+
+/// Whether the items of the one program of texts have these areas, offsets and lengths.
+fn has_places(alloc: Global, texts: Texts, places: &[(u32, u32, u32)]) -> bool {
+    match assemble(alloc, texts, None) {
+        Ok(gathered) => match gathered.portfolio.layouts.items() {
+            [layout] => are_places(layout, places),
+            _ => false,
+        },
+        Err(_) => false,
+    }
+}
+
+fn are_places(layout: &Layout, places: &[(u32, u32, u32)]) -> bool {
+    let items = layout.items.items();
+    if items.len() != places.len() {
+        return false;
+    }
+    for i in 0..places.len() {
+        if i < items.len() {
+            let span = items[i].span;
+            let (area, offset, length) = places[i];
+            if span.area.0 != area || span.offset != offset || span.length != length {
+                return false;
+            }
         }
     }
     true

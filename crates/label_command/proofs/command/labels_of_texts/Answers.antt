@@ -1,9 +1,5 @@
 use Rattle.label_command.proofs.Causes.{caused, labelled}
-use Rattle.label_command.proofs.Ready.{ready}
 use Rattle.label_command.proofs.command.labels_of_texts.Goals as goal
-
-pub labels_of_portfolio-requires : goal.labels_of_portfolio-requires
-labels_of_portfolio-requires c = ready _ _ _ c.in-Ok.ensures.sound.laid
 
 pub returns-in-Ok-clause-labels : goal.returns-in-Ok-clause-labels
 returns-in-Ok-clause-labels c =
