@@ -1,1 +1,2 @@
 pub mod InNames
+pub mod NearOccurrences

@@ -84,6 +84,29 @@ const FILED: &[u8] = b"       DATA DIVISION.
            STOP RUN.
 ";
 
+/// What stands before the statements of a row on tables: one of rows with two fields and a number behind it, seen
+/// otherwise by a redefinition, and one of two dimensions in another area.
+const TABLES: &[u8] = b"       ID DIVISION.
+       PROGRAM-ID. P.
+       DATA DIVISION.
+       WORKING-STORAGE SECTION.
+       01 G.
+           05 R OCCURS 3.
+               10 A PIC 9(2).
+               10 B PIC 9(2).
+           05 N PIC 9(4).
+       01 H REDEFINES G.
+           05 P PIC 9(4).
+           05 Q PIC 9(2) OCCURS 4.
+       01 D.
+           05 E OCCURS 2.
+               10 F PIC 9 OCCURS 3.
+       77 J PIC 9.
+       77 K PIC 9.
+       PROCEDURE DIVISION.
+       MAIN.
+";
+
 /// The first fault in the uses of the program that the text is.
 fn first_fault_in(alloc: Global, text: &[u8]) -> Result<Option<Refused>, Fail> {
     let lines = read_lines(alloc, text, FileId(0))?;
@@ -295,6 +318,48 @@ KADD A (1) TO A (2) A (3).
 SADD A (1) TO A (2) A (1).
 ";
     assert!(rt; all_hold(rt.alloc(), DATA, AREA_B, rows, PARAGRAPH)?);
+    Ok(())
+}
+
+#[test]
+fn a_receiver_of_several_shares_no_byte_with_an_operand(rt: HostRuntime) -> Result<(), Fail> {
+    let rows = b"KADD A (1) TO A (2) A (3).
+SADD A (1) TO A (2) A (1).
+KADD A (1) TO B (1) B (2).
+SADD A (1) TO A (K) N.
+SADD A (K) TO A (1) N.
+SADD A (K) TO N A (3).
+KADD A (1) TO B (K) N.
+KADD A (K) TO B (2) N.
+SADD A (K) TO A (J) N.
+SADD A (K) TO A (K) N.
+KADD A (K) TO B (J) N.
+KADD A (K) TO A (J).
+KADD 1 TO A (K) A (J).
+KADD 1 TO A (1) A (1).
+SCOMPUTE A (K) N = A (J) + 1.
+KCOMPUTE A (K) N = B (J) + 1.
+SADD A (K) B (J) GIVING B (1) N.
+KADD A (K) A (J) GIVING B (1) N.
+SADD P TO A (K) N.
+SADD P TO B (1) N.
+KADD P TO A (2) N.
+SADD Q (K) TO A (J) N.
+KADD Q (K) TO A (1) N.
+SADD Q (2) TO B (K) N.
+KADD Q (2) TO A (K) N.
+SADD N TO A (K) N.
+KADD Q (K) TO N J.
+KADD F (K J) TO A (K) N.
+SADD F (1 K) TO F (J 3) N.
+KADD F (1 K) TO F (2 J) N.
+SADD F (K 1) TO F (1 J) N.
+KADD F (K 1) TO F (J 2) N.
+KADD A (K) TO K N.
+KADD K TO A (K) N.
+SADD 1 TO J N (K:2).
+";
+    assert!(rt; all_hold(rt.alloc(), TABLES, AREA_B, rows, PARAGRAPH)?);
     Ok(())
 }
 
