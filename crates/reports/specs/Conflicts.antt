@@ -2,7 +2,6 @@
 use Rattle.std.specs.Prelude.{ℕ, ◌+◌, List, [], ◌∷◌, ◌++◌, codes, decimal, slice_get, Option, Some, None}
 use Rattle.y2k_base.specs.declared.text.Text.{Text}
 use Rattle.y2k_base.specs.declared.text.Texts.{Texts}
-use Rattle.y2k_base.specs.declared.word.Origin.{Origin}
 use Rattle.data_layout.specs.declared.portfolio.Portfolio.{Portfolio}
 use Rattle.year_labels.specs.declared.rule.Rule.{Rule}
 use Rattle.year_labels.specs.declared.rule.Rule.TheVariants as rules
@@ -15,6 +14,7 @@ use Rattle.reports.specs.declared.conflicts.Sources.{Sources}
 use Rattle.reports.specs.declared.names.AreaName.{AreaName}
 use Rattle.reports.specs.Labels.{label_row}
 use Rattle.reports.specs.Names.{names_of}
+use Rattle.reports.specs.Places.{place_text}
 use Rattle.reports.specs.Rows.{rows_text}
 
 -- what the fields of a step are looked up in: the names of areas, the texts, the rules, and the name of the seed file
@@ -39,16 +39,6 @@ rule_text rules.Excess = codes "excess"
 rule_text rules.Add = codes "add"
 rule_text rules.Subtract = codes "subtract"
 rule_text rules.Plain = codes "plain"
-
--- a text that isn't there has no name
-abbrev pub text_name : Option Text → List ℕ
-text_name None = []
-text_name (Some text) = text.name
-
--- FILE:LINE:COLUMN
-abbrev pub place_text : List Text → Origin → List ℕ
-place_text texts origin =
-    text_name (slice_get texts origin.file.0) ++ (codes ":" ++ (decimal origin.line ++ (codes ":" ++ decimal origin.column)))
 
 -- a seed is named so, and stands at FILE:ROW
 abbrev pub seed_fields : List ℕ → ℕ → List (List ℕ)

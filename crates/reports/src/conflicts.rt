@@ -4,11 +4,12 @@ ghost use Rattle.reports.specs.Rows.{IsBetweenRows, row_text, rows_text, written
 
 use crate::labels::{decimal_text, label_text};
 use crate::names::{AreaName, area_names, name_at};
+use crate::places::push_place;
 use crate::rows::Rows;
 use conflict_chain::{ChainStep, Conflict, Why};
 use data_layout::Portfolio;
 use std::alloc::{AllocError, Global};
-use y2k_base::{Bytes, List, Memory, Origin, Text, Texts};
+use y2k_base::{Bytes, List, Memory, Text, Texts};
 use year_labels::{Rule, RuleInst};
 
 /// What the fields of a step are looked up in.
@@ -239,29 +240,4 @@ fn rule_text(rule: Rule) -> &'static str
         Rule::Subtract => "subtract",
         Rule::Plain => "plain",
     }
-}
-
-/// Adds FILE:LINE:COLUMN.
-fn push_place(alloc: Global, at: &mut Bytes, texts: &[Text], origin: Origin) -> Result<(), Memory>
-    ensures { OnOk result (at.new ≡ at.old ++ spec.place_text texts.now origin) }
-{
-    at.append(text_name(texts, origin))?;
-    let rest = after_file(alloc, origin)?;
-    at.append(rest.as_bytes())
-}
-
-fn text_name(texts: &[Text], origin: Origin) -> &[u8]
-    ensures { result.now ≡ spec.text_name (slice_get texts.now origin.file.0) }
-{
-    match texts.get(origin.file.0 as usize) {
-        Some(text) => text.name.items(),
-        None => &[],
-    }
-}
-
-fn after_file(alloc: Global, origin: Origin) -> Result<String, AllocError>
-    ensures { IfOk result (λ text. string_bytes text ≡ codes ":" ++ (decimal origin.line ++ (codes ":" ++ decimal origin.column))) }
-{
-    let Origin { line, column, .. } = origin;
-    format!(in alloc; ":{line}:{column}")
 }

@@ -2,8 +2,12 @@
 #![tactic(auto)]
 
 mod conflicts;
+#[cfg(test)]
+mod item_tests;
+mod items;
 mod labels;
 mod names;
+mod places;
 mod rows;
 #[cfg(test)]
 mod tests;

@@ -84,7 +84,7 @@ fn copied(alloc: Global, bytes: &[u8]) -> Result<Bytes, Memory>
     Ok(copy)
 }
 
-fn name_text(name: &Option<Bytes>) -> &[u8]
+pub(crate) fn name_text(name: &Option<Bytes>) -> &[u8]
     ensures { result.now ≡ spec.name_text name.now }
 {
     match name {

@@ -10,13 +10,13 @@ use year_labels::{Fact, Label, Labelling, Rule, RuleForm, RuleInst};
 /// The name of a program, and those of its areas.
 type Named<'a> = (&'a str, &'a [Option<&'a str>]);
 
-fn bytes_of(alloc: Global, text: &str) -> Result<Bytes, Memory> {
+pub(crate) fn bytes_of(alloc: Global, text: &str) -> Result<Bytes, Memory> {
     let mut bytes = List::new(alloc);
     bytes.append(text.as_bytes())?;
     Ok(bytes)
 }
 
-fn program(alloc: Global, name: &str) -> Result<Program, Memory> {
+pub(crate) fn program(alloc: Global, name: &str) -> Result<Program, Memory> {
     let id = bytes_of(alloc, name)?;
     Ok(Program {
         id,
@@ -222,7 +222,7 @@ fn a_field_is_quoted_where_it_must_be(rt: HostRuntime) -> Result<(), Fail> {
 }
 
 /// Texts with these names.
-fn texts(alloc: Global, names: &[&str]) -> Result<Texts, Memory> {
+pub(crate) fn texts(alloc: Global, names: &[&str]) -> Result<Texts, Memory> {
     let mut list = List::new(alloc);
     for i in 0..names.len() {
         let text = Text {
