@@ -1,0 +1,2 @@
+mod Csv
+mod Loops
