@@ -1,5 +1,6 @@
 pub mod Kinds
 pub mod Names
 pub mod Numbered
-pub mod Values
 pub mod Reading
+pub mod Told
+pub mod Values

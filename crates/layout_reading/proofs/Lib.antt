@@ -1,0 +1,4 @@
+pub mod Found
+pub mod Meant
+pub mod Numbered
+pub mod Qualified
