@@ -1,16 +1,13 @@
 -- A name means in a layout as it is read what it means in the layout: an item, a condition-name, or neither. That a
 -- name means several things isn't spoken of, since an item and a condition-name may have it.
-use Rattle.std.proofs.Common.{◌≡◌, ◌≢◌, ℕ, zero, suc, ◌+◌, List, [], ◌∷◌, refl, sym, ap, ◌∙◌, arith, Option, Some, None, Bool, true, false, true≢false, length, map}
+use Rattle.std.proofs.Common.{◌≡◌, ◌≢◌, ℕ, List, [], ◌∷◌, refl, sym, ap, ◌∙◌, arith, None, true, false, true≢false}
 use Rattle.std.specs.Prelude.{slice_get}
-use Rattle.std.specs.Option.{option_map}
 use Rattle.cobol_syntax.specs.declared.program.Program.{Program}
-use Rattle.data_layout.specs.declared.item.Item.{Item}
 use Rattle.data_layout.specs.declared.item.Layout.{Layout}
 use Rattle.data_layout.specs.declared.found.Found.{Found}
 use Rattle.data_layout.specs.declared.found.Found.TheVariants as found
 use Rattle.data_layout.specs.Find.{with, meaning, among_items, among_conds, item_fits, cond_fits}
-use Rattle.program_meaning.specs.Tree.{Name, Operand}
-use Rattle.program_meaning.specs.Layout as layout
+use Rattle.program_meaning.specs.Tree.{Name}
 use Rattle.program_meaning.specs.Layout.{only_one, items_meant, conds_meant, item_of, cond_of}
 use Rattle.layout_reading.specs.Names.{unnamed}
 use Rattle.layout_reading.specs.Numbered.{AreNumbered}

@@ -1,12 +1,12 @@
 -- What is found among items and condition-names by their numbers, and what their readings have of it.
-use Rattle.std.proofs.Common.{◌≡◌, ◌≢◌, ℕ, zero, suc, ◌+◌, List, [], ◌∷◌, length, map, refl, sym, subst, ap, ap₂, ◌∙◌, arith, Option, Some, None, Bool, true, false, cond}
+use Rattle.std.proofs.Common.{◌≡◌, ◌≢◌, ℕ, suc, ◌+◌, List, [], ◌∷◌, length, map, refl, subst, ap, ap₂, arith, Option, Some, Bool, true, false, cond}
 use Rattle.std.specs.Prelude.{◌&&◌, if◌then◌else◌, slice_get}
 use Rattle.data_layout.specs.declared.item.Item.{Item}
 use Rattle.data_layout.specs.declared.item.CondItem.{CondItem}
 use Rattle.data_layout.specs.declared.item.Layout.{Layout}
 use Rattle.data_layout.specs.declared.found.Found.{Found}
 use Rattle.data_layout.specs.declared.found.Found.TheVariants as found
-use Rattle.data_layout.specs.Find.{with, unless, among_items, among_conds, item_fits, cond_fits, area_of}
+use Rattle.data_layout.specs.Find.{with, among_items, among_conds, item_fits, cond_fits, area_of}
 use Rattle.program_meaning.specs.Tree.{Name, Operand}
 use Rattle.program_meaning.specs.Layout as layout
 use Rattle.program_meaning.specs.Layout.{means, items_meant, conds_meant, only_one}
@@ -87,15 +87,15 @@ module _ (l : Layout) (first : ℕ) (ids : AreNumbered first l.areas) (name : Na
   items-tell word number [] vs = refl
   items-tell word number (item ∷ items) vs =
       by_test (item_fits l name qs item) (item-fits word item (first_value vs)) (items-tell word (number + 1) items (other_values vs)) where
-    by_test : (b : Bool) → b ≡ means (name ∷ qs) (read_item l item (first_value vs)).name (read_item l item (first_value vs)).above
-        → Tells true (number + 1) (read_items l items (other_values vs)) (among_items (item_fits l name qs) (number + 1) items) (items_meant (name ∷ qs) (read_items l items (other_values vs)))
-        → Tells true number (read_items l (item ∷ items) vs) (with (if b then found.Item number else found.Unknown) (among_items (item_fits l name qs) (number + 1) items)) (items_meant (name ∷ qs) (read_items l (item ∷ items) vs))
-    by_test true is later =
-        subst (λ (b : Bool). Tells true number (read_items l (item ∷ items) vs) (with (found.Item number) (among_items (item_fits l name qs) (number + 1) items)) (cond b (read_item l item (first_value vs) ∷ items_meant (name ∷ qs) (read_items l items (other_values vs))) (items_meant (name ∷ qs) (read_items l items (other_values vs))))) is
-        (in-front number (read_item l item (first_value vs)) (read_items l items (other_values vs)) (items_meant (name ∷ qs) (read_items l items (other_values vs))) (among_items (item_fits l name qs) (number + 1) items) later)
-    by_test false is later =
-        subst (λ (b : Bool). Tells true number (read_items l (item ∷ items) vs) (among_items (item_fits l name qs) (number + 1) items) (cond b (read_item l item (first_value vs) ∷ items_meant (name ∷ qs) (read_items l items (other_values vs))) (items_meant (name ∷ qs) (read_items l items (other_values vs))))) is
-        (behind true number (read_item l item (first_value vs)) (read_items l items (other_values vs)) (items_meant (name ∷ qs) (read_items l items (other_values vs))) (among_items (item_fits l name qs) (number + 1) items) later)
+        by_test : (b : Bool) → b ≡ means (name ∷ qs) (read_item l item (first_value vs)).name (read_item l item (first_value vs)).above
+            → Tells true (number + 1) (read_items l items (other_values vs)) (among_items (item_fits l name qs) (number + 1) items) (items_meant (name ∷ qs) (read_items l items (other_values vs)))
+            → Tells true number (read_items l (item ∷ items) vs) (with (if b then found.Item number else found.Unknown) (among_items (item_fits l name qs) (number + 1) items)) (items_meant (name ∷ qs) (read_items l (item ∷ items) vs))
+        by_test true is later =
+            subst (λ (b : Bool). Tells true number (read_items l (item ∷ items) vs) (with (found.Item number) (among_items (item_fits l name qs) (number + 1) items)) (cond b (read_item l item (first_value vs) ∷ items_meant (name ∷ qs) (read_items l items (other_values vs))) (items_meant (name ∷ qs) (read_items l items (other_values vs))))) is
+            (in-front number (read_item l item (first_value vs)) (read_items l items (other_values vs)) (items_meant (name ∷ qs) (read_items l items (other_values vs))) (among_items (item_fits l name qs) (number + 1) items) later)
+        by_test false is later =
+            subst (λ (b : Bool). Tells true number (read_items l (item ∷ items) vs) (among_items (item_fits l name qs) (number + 1) items) (cond b (read_item l item (first_value vs) ∷ items_meant (name ∷ qs) (read_items l items (other_values vs))) (items_meant (name ∷ qs) (read_items l items (other_values vs))))) is
+            (behind true number (read_item l item (first_value vs)) (read_items l items (other_values vs)) (items_meant (name ∷ qs) (read_items l items (other_values vs))) (among_items (item_fits l name qs) (number + 1) items) later)
 
   pub conds-tell : (all : List layout.Item) (number : ℕ) (conds : List CondItem)
       → Tells false number (map (read_cond l all) conds) (among_conds (cond_fits l name qs) number conds) (conds_meant (name ∷ qs) (map (read_cond l all) conds))

@@ -1,15 +1,14 @@
 -- The areas of a laid program are numbered from its first one on.
-use Rattle.std.proofs.Common.{◌≡◌, ℕ, zero, suc, ◌+◌, List, [], ◌∷◌, ◌++◌, length, refl, sym, subst, ap, ◌∙◌, arith, Option, Some, None, Bool, true, false}
+use Rattle.std.proofs.Common.{◌≡◌, ℕ, ◌+◌, List, [], ◌∷◌, ◌++◌, length, refl, sym, subst, arith, Bool, true, false}
 use Rattle.std.specs.Prelude.{if◌then◌else◌, is_some}
 use Rattle.y2k_base.specs.declared.place.AreaId.{AreaId}
-use Rattle.cobol_syntax.specs.declared.program.Entry.{Entry}
 use Rattle.cobol_syntax.specs.declared.program.FileEntry.{FileEntry}
 use Rattle.cobol_syntax.specs.declared.program.Program.{Program}
 use Rattle.data_layout.specs.declared.item.Area.{Area}
 use Rattle.data_layout.specs.declared.item.Layout.{Layout}
 use Rattle.data_layout.specs.Tree.{Forest, nothing, node}
 use Rattle.data_layout.specs.Sizes.{is_named}
-use Rattle.data_layout.specs.Sections.{files_areas, next_area, after_files, storage_areas, own_areas, storage_area, owners_from, owners_after, area_for, next_for, tops, areas_of, IsLayout}
+use Rattle.data_layout.specs.Sections.{files_areas, next_area, after_files, storage_areas, own_areas, storage_area, owners_from, owners_after, tops, areas_of, IsLayout}
 use Rattle.layout_reading.specs.Numbered.{AreNumbered}
 
 pub append-numbered : (n : ℕ) (xs ys : List Area) → AreNumbered n xs → AreNumbered (n + length xs) ys → AreNumbered n (xs ++ ys)
@@ -31,16 +30,16 @@ storage-numbered : (owners : _) (forest : Forest) → AreNumbered owners.next.0 
 storage-numbered owners nothing = tt
 storage-numbered owners (node e parts others) =
     by_name (is_named e) (storage-numbered owners others) (storage-numbered (owners_after owners e) others) where
-  by_redefinition : (r : Bool) → AreNumbered (if r then owners.next else next_area owners.next).0 (storage_areas (owners_after owners e) others)
-      → AreNumbered owners.next.0 ((if r then [] else storage_area owners.next e parts ∷ []) ++ storage_areas (owners_after owners e) others)
-  by_redefinition true more = more
-  by_redefinition false more = (refl, more)
+      by_redefinition : (r : Bool) → AreNumbered (if r then owners.next else next_area owners.next).0 (storage_areas (owners_after owners e) others)
+          → AreNumbered owners.next.0 ((if r then [] else storage_area owners.next e parts ∷ []) ++ storage_areas (owners_after owners e) others)
+      by_redefinition true more = more
+      by_redefinition false more = (refl, more)
 
-  by_name : (b : Bool) → AreNumbered owners.next.0 (storage_areas owners others)
-      → AreNumbered (owners_after owners e).next.0 (storage_areas (owners_after owners e) others)
-      → AreNumbered owners.next.0 (if b then storage_areas owners others else own_areas owners.next e parts ++ storage_areas (owners_after owners e) others)
-  by_name true more after = more
-  by_name false more after = by_redefinition (is_some e.redefines) after
+      by_name : (b : Bool) → AreNumbered owners.next.0 (storage_areas owners others)
+          → AreNumbered (owners_after owners e).next.0 (storage_areas (owners_after owners e) others)
+          → AreNumbered owners.next.0 (if b then storage_areas owners others else own_areas owners.next e parts ++ storage_areas (owners_after owners e) others)
+      by_name true more after = more
+      by_name false more after = by_redefinition (is_some e.redefines) after
 
 areas-numbered : (first : AreaId) (program : Program) → AreNumbered first.0 (areas_of first program)
 areas-numbered first program =

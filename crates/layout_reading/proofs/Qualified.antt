@@ -1,5 +1,5 @@
 -- A thing has the qualifiers of a name exactly where they stand, in their order, among the names above it.
-use Rattle.std.proofs.Common.{◌≡◌, ◌≢◌, ◌<◌, ℕ, zero, suc, ◌+◌, ◌==◌, List, [], ◌∷◌, ◌++◌, refl, sym, subst, ap, ap₂, ◌∙◌, arith, Option, Some, None, Bool, true, false, cond, true≢false}
+use Rattle.std.proofs.Common.{◌≡◌, ◌≢◌, ◌<◌, ℕ, zero, suc, ◌+◌, ◌==◌, List, [], ◌∷◌, ◌++◌, refl, sym, ap, ap₂, ◌∙◌, arith, Option, Some, None, Bool, true, false, cond}
 use Rattle.std.specs.Prelude.{◌&&◌, ◌||◌, if◌then◌else◌, slice_get, bytes_eq}
 use Rattle.std.proofs.lemmas.Slice.Eq.{bytes_eq-Decides}
 use Rattle.y2k_base.specs.declared.place.AreaId.{AreaId}
@@ -83,9 +83,9 @@ left-after None (q ∷ qs) above = refl
 left-after (Some own) [] above = refl
 left-after (Some own) (q ∷ qs) above =
     by_test (bytes_eq own q) ∙ ap (λ (b : Bool). cond b (qualifies qs above) (qualifies (q ∷ qs) above)) (same-name own q) where
-  by_test : (b : Bool) → qualifies (if b then qs else q ∷ qs) above ≡ cond b (qualifies qs above) (qualifies (q ∷ qs) above)
-  by_test true = refl
-  by_test false = refl
+      by_test : (b : Bool) → qualifies (if b then qs else q ∷ qs) above ≡ cond b (qualifies qs above) (qualifies (q ∷ qs) above)
+      by_test true = refl
+      by_test false = refl
 
 pub qualified : (more : ℕ) (items : List Item) (areas : List Area) (n : ℕ) (id : AreaId) (holder : Option ℕ) (names : List Name) → AreNumbered n areas
     → is_in more items areas id holder names ≡ qualifies names (above_from more items areas id holder)

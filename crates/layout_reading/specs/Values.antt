@@ -1,6 +1,6 @@
 -- The VALUE clauses of the items of a program. Items are numbered in the order of their entries, and each entry
 -- that isn't a condition-name is an item.
-use Rattle.std.specs.Prelude.{List, [], ◌∷◌, ◌++◌, Option, None, if◌then◌else◌}
+use Rattle.std.specs.Prelude.{ℕ, zero, suc, List, [], ◌∷◌, ◌++◌, Option, None, if◌then◌else◌}
 use Rattle.cobol_syntax.specs.declared.program.Entry.{Entry}
 use Rattle.cobol_syntax.specs.declared.program.FileEntry.{FileEntry}
 use Rattle.cobol_syntax.specs.declared.program.Program.{Program}
@@ -28,3 +28,8 @@ first_value (v ∷ vs) = v
 abbrev pub other_values : List (Option Operand) → List (Option Operand)
 other_values [] = []
 other_values (v ∷ vs) = vs
+
+-- that of the item with this number
+abbrev pub value_at : List (Option Operand) → ℕ → Option Operand
+value_at vs zero = first_value vs
+value_at vs (suc k) = value_at (other_values vs) k
