@@ -1,0 +1,5 @@
+pub mod Found
+pub mod Meant
+pub mod Numbered
+pub mod Qualified
+pub mod Seen
