@@ -38,7 +38,7 @@ unfolding csv.fields_text
 more_same [] = refl
 more_same (field ∷ rest) = rw (field_same field, more_same rest) refl
 
-default_row : (fields : List (List ℕ)) → 2 ≤ length fields → csv.row_text csv.default_writer fields ≡ row_text fields
+pub default_row : (fields : List (List ℕ)) → 2 ≤ length fields → csv.row_text csv.default_writer fields ≡ row_text fields
 unfolding csv.is_blank
 default_row [] several = absurd (omega (arith, several))
 default_row (field ∷ []) several = absurd (omega (arith, several))

@@ -84,6 +84,9 @@ abbrev pub known_in : Texts → Portfolio → List RuleInst → List ℕ → Kno
 known_in texts portfolio rules seeds = record { names = names_of portfolio; texts = texts.list; rules = rules; seeds = seeds }
 
 -- a row for each step, in order of conflicts, of sides and of steps, each numbered from 1
+abbrev pub conflict_table : Texts → Portfolio → List RuleInst → List Conflict → List ℕ → List (List (List ℕ))
+conflict_table texts portfolio rules conflicts seeds =
+    conflict_header ∷ rows_from (known_in texts portfolio rules seeds) 1 conflicts
+
 abbrev pub conflict_report : Texts → Portfolio → List RuleInst → List Conflict → List ℕ → List ℕ
-conflict_report texts portfolio rules conflicts seeds =
-    rows_text (conflict_header ∷ rows_from (known_in texts portfolio rules seeds) 1 conflicts)
+conflict_report texts portfolio rules conflicts seeds = rows_text (conflict_table texts portfolio rules conflicts seeds)

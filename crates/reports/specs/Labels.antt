@@ -23,5 +23,8 @@ label_row names f =
     (name_at names f.place.area).program ∷ (name_at names f.place.area).area ∷ decimal f.place.offset ∷ label_text f.label ∷ []
 
 -- a row for each fact, in order
+abbrev pub label_table : Portfolio → List Fact → List (List (List ℕ))
+label_table portfolio facts = label_header ∷ map (label_row (names_of portfolio)) facts
+
 abbrev pub label_report : Portfolio → List Fact → List ℕ
-label_report portfolio facts = rows_text (label_header ∷ map (label_row (names_of portfolio)) facts)
+label_report portfolio facts = rows_text (label_table portfolio facts)

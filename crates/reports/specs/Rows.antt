@@ -1,6 +1,8 @@
 -- The text of rows of fields that are parted by commas.
 use Rattle.std.specs.Prelude.{◌≡◌, ◌==◌, ◌||◌, ◌++◌, ◌∷◌, [], ℕ, Bool, false, List, if◌then◌else◌}
 use Rattle.std.specs.List.{flat_map, list_any}
+use Rattle.csv.specs.Reading.{AreRecords, default_config, strip_bom}
+use Rattle.csv.specs.declared.parser.State.TheVariants as st
 use Rattle.csv.specs.Writing.{default_writer, fields_written, has_written, writer_pending, writer_setup, writer_under}
 use Rattle.reports.specs.declared.rows.Rows.{Rows}
 
@@ -41,6 +43,10 @@ row_text (field ∷ fields) = field_text field ++ (more_text fields ++ line_feed
 
 abbrev pub rows_text : List (List (List ℕ)) → List ℕ
 rows_text rows = flat_map row_text rows
+
+-- a reader of CSV finds these rows in the text, and no others
+abbrev pub ReadsAs : List ℕ → List (List (List ℕ)) → Type 0
+ReadsAs text rows = AreRecords default_config st.StartRecord (strip_bom text) rows
 
 -- what was written so far: what the target holds, and what waits in the buffer
 abbrev pub written : Rows → List ℕ

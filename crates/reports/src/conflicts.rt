@@ -1,6 +1,6 @@
 ghost use Rattle.std.specs.Prelude.{◌≡◌, ◌++◌, ◌+◌, ◌∷◌, [], decimal, codes, IfOk, OnOk, string_bytes, slice_get};
 ghost use Rattle.reports.specs.Conflicts as spec;
-ghost use Rattle.reports.specs.Rows.{IsBetweenRows, row_text, rows_text, written};
+ghost use Rattle.reports.specs.Rows.{IsBetweenRows, ReadsAs, row_text, rows_text, written};
 
 use crate::labels::{decimal_text, label_text};
 use crate::names::{AreaName, area_names, name_at};
@@ -49,8 +49,25 @@ impl Drop for Reason {
 /// each step of the two chains of each conflict, in order. Conflicts, sides and the steps of a side count from 1. The
 /// next four fields are those of a row of `label_rows`. `rule` is the name of the rule by which the step follows, and
 /// `at` its place FILE:LINE:COLUMN; for a seed they are `seed` and FILE:ROW with the name of the seed file. What a chain
-/// names and isn't there prints as nothing. The form of the rows is this project's choice.
+/// names and isn't there prints as nothing. A reader of CSV finds exactly these rows in the text. The form of the rows is
+/// this project's choice.
+#[tactic(auto, using(crate::proofs::Again::conflicts_again))]
 pub fn conflict_rows(
+    alloc: Global,
+    texts: &Texts,
+    portfolio: &Portfolio,
+    rules: &[RuleInst],
+    list: &[Conflict],
+    seeds: &str,
+) -> Result<Bytes, Memory>
+    ensures text { IfOk result (λ text. text ≡ spec.conflict_report texts.now portfolio.now rules.now list.now seeds.now) }
+    ensures again { IfOk result (λ text. ReadsAs text (spec.conflict_table texts.now portfolio.now rules.now list.now seeds.now)) }
+{
+    let text = report(alloc, texts, portfolio, rules, list, seeds)?;
+    Ok(text)
+}
+
+fn report(
     alloc: Global,
     texts: &Texts,
     portfolio: &Portfolio,

@@ -79,7 +79,10 @@ fn add_words(alloc: Global, program: &mut Program, line: u32, entry: Line) -> Re
 }
 
 fn add_entry(alloc: Global, program: &mut Program, line: u32, entry: Line) -> Result<(), Memory> {
-    let at = program.words.len() as u32;
+    let at = match u32::try_from(program.words.len()) {
+        Ok(at) => at,
+        Err(_) => return Err(Memory),
+    };
     add_words(alloc, program, line, entry)?;
     let (level, name, redefines, picture) = entry;
     let name = name_of(alloc, name)?;

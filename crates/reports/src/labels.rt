@@ -1,6 +1,6 @@
 ghost use Rattle.std.specs.Prelude.{◌≡◌, ◌++◌, map, decimal, IfOk, OnOk, string_bytes};
 ghost use Rattle.reports.specs.Labels as spec;
-ghost use Rattle.reports.specs.Rows.{IsBetweenRows, row_text, rows_text, written};
+ghost use Rattle.reports.specs.Rows.{IsBetweenRows, ReadsAs, row_text, rows_text, written};
 
 use crate::names::{AreaName, area_names, name_at};
 use crate::rows::Rows;
@@ -13,12 +13,22 @@ use year_labels::{Fact, Label, Labelling};
 /// areas, of bytes (from 0) and of labels. `T` and `U` are the tens and the units digit of a year, `P` is a byte that
 /// may hold no year digit, and `Kn.y.k` is byte k of a packed number of n digits whose year has its units digit at
 /// power y of ten. The area of a number is that of this index among the areas of all programs, as where programs are
-/// laid out one after the other; one without a name is FILLER. The form of the rows is this project's choice.
+/// laid out one after the other; one without a name is FILLER. A reader of CSV finds exactly these rows in the text. The
+/// form of the rows is this project's choice.
+#[tactic(auto, using(crate::proofs::Again::labels_again))]
 pub fn label_rows(
     alloc: Global,
     portfolio: &Portfolio,
     labelling: &Labelling,
 ) -> Result<Bytes, Memory>
+    ensures text { IfOk result (λ text. text ≡ spec.label_report portfolio.now labelling.now) }
+    ensures again { IfOk result (λ text. ReadsAs text (spec.label_table portfolio.now labelling.now)) }
+{
+    let text = report(alloc, portfolio, labelling)?;
+    Ok(text)
+}
+
+fn report(alloc: Global, portfolio: &Portfolio, labelling: &Labelling) -> Result<Bytes, Memory>
     ensures { IfOk result (λ text. text ≡ spec.label_report portfolio.now labelling.now) }
 {
     let names = area_names(alloc, portfolio)?;
