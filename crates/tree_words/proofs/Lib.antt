@@ -7,3 +7,5 @@ pub mod StatementFolds
 pub mod Simple
 pub mod Arithmetic
 pub mod Sentences
+pub mod Entries
+pub mod Programs
