@@ -1,9 +1,7 @@
 -- What holds of arithmetic statements up to their size phrases.
-use Rattle.std.proofs.Common.{ℕ, zero, suc, ◌+◌, ◌<◌, ◌≤◌, nat_lt, nat_le, ◌≡◌, refl, sym, ap, ◌∙◌, Bool, true, false, ◌&&◌, List, [], ◌∷◌, ◌++◌, map, Option, Some, None, arith}
+use Rattle.std.proofs.Common.{ℕ, ◌≤◌, ◌≡◌, refl, ap, ◌∙◌, Bool, true, ◌&&◌, [], ◌∷◌, ◌++◌, map, arith}
 use Rattle.std.proofs.lemmas.Bool.{and_from, and_parts}
-use Rattle.cobol_syntax.specs.declared.place.Place.{Place}
 use Rattle.cobol_syntax.specs.declared.expr.Operand.{Operand}
-use Rattle.cobol_syntax.specs.declared.expr.Operand.TheVariants as operand
 use Rattle.cobol_syntax.specs.declared.expr.Expr.{Expr}
 use Rattle.cobol_syntax.specs.declared.expr.Expr.TheVariants as e
 use Rattle.proc_reader.specs.declared.arithmetic.Receiver.{Receiver}
@@ -14,7 +12,7 @@ use Rattle.proc_reader.specs.declared.tree.Joining.TheVariants as by
 use Rattle.proc_reader.specs.Source.{Source}
 use Rattle.proc_reader.specs.Trees.{joined, joined_expr}
 use Rattle.proc_reader.specs.Arithmetic.{one_more, computing_of}
-use Rattle.proc_reader.specs.Grammar.{Many, OperandAt}
+use Rattle.proc_reader.specs.Grammar.{OperandAt}
 use Rattle.proc_reader.specs.ArithmeticGrammar.{RoundedAt, ReceiverAt, ReceiversAt, SumAt, GivingAt, SecondAt, TargetAt, RemainderAt, QuotientAt, ComputingAt}
 use Rattle.proc_reader.specs.ArithmeticGrammar as grammar
 use Rattle.tree_words.specs.Fits.{all_true, if_any, place_fits, operand_fits, expr_fits}
@@ -73,7 +71,7 @@ module _ (words : ℕ) where
           grows = omega (arith, first.grows, later);
           fit = λ within.
               many-fits words receivers_fit receiver_fits item one-more-fits w.more_read within
-                  (and_from true (receiver_fits w.first) refl (first.fit (omega (arith, later, within))));
+              (and_from true (receiver_fits w.first) refl (first.fit (omega (arith, later, within))));
         }
 
     sum-taken : (level i j : ℕ) (sum : Expr) → SumAt t level i j sum → Taken words i j (expr_fits words sum)
@@ -85,7 +83,7 @@ module _ (words : ℕ) where
           grows = omega (arith, first.grows, later);
           fit = λ within.
               many-fits words (expr_fits words) (operand_fits words) item (joined-fits by.Add) w.more_read within
-                  (fits-One words w.first ∙ first.fit (omega (arith, later, within)));
+              (fits-One words w.first ∙ first.fit (omega (arith, later, within)));
         }
 
     giving-taken : (level : ℕ) (value : Expr) (i j : ℕ) (c : Computing) → GivingAt t level value i j c → TakenBy words i j (expr_fits words value) (computing_fits c)
@@ -135,8 +133,8 @@ module _ (words : ℕ) where
           grows = omega (arith, first.grows, taken.grows, rest.grows);
           fit = λ within given.
               rest.fit within
-                  (taken.fit (omega (arith, rest.grows, within))
-                      (joined-fits by.Divide value x given (first.fit (omega (arith, taken.grows, rest.grows, within)))));
+              (taken.fit (omega (arith, rest.grows, within))
+              (joined-fits by.Divide value x given (first.fit (omega (arith, taken.grows, rest.grows, within)))));
         }
 
     pub computing-taken : (level i j : ℕ) (c : Computing) → ComputingAt t level i j c → Taken words i j (computing_fits c)
@@ -184,10 +182,10 @@ module _ (words : ℕ) where
           grows = omega (arith, verb.next_is, first.grows, word.next_is, second.grows, taken.grows, rest.grows);
           fit = λ within.
               rest.fit within
-                  (taken.fit (omega (arith, rest.grows, within))
-                      (joined-fits by.DivideBy (e.One x) y
-                          (fits-One words x ∙ first.fit (omega (arith, word.next_is, second.grows, taken.grows, rest.grows, within)))
-                          (second.fit (omega (arith, taken.grows, rest.grows, within)))));
+              (taken.fit (omega (arith, rest.grows, within))
+              (joined-fits by.DivideBy (e.One x) y
+              (fits-One words x ∙ first.fit (omega (arith, word.next_is, second.grows, taken.grows, rest.grows, within)))
+              (second.fit (omega (arith, taken.grows, rest.grows, within)))));
         }
     computing-taken level i j c (grammar.compute {a = a} {b = b} {d = d} {all = all} {x = x} verb receivers word value) =
         let first = receivers-taken level a b all receivers in

@@ -1,8 +1,7 @@
 -- What holds of conditions that are read.
-use Rattle.std.proofs.Common.{ℕ, ℤ, zero, suc, ◌+◌, ◌<◌, ◌≤◌, nat_lt, nat_le, ◌≡◌, refl, sym, ap, ◌∙◌, Bool, true, false, ◌&&◌, List, [], ◌∷◌, map, Option, Some, None, arith}
+use Rattle.std.proofs.Common.{ℕ, zero, suc, ◌<◌, ◌≤◌, nat_lt, nat_le, ◌≡◌, refl, sym, ap, ◌∙◌, Bool, true, false, ◌&&◌, map, Option, Some, None, arith}
 use Rattle.std.proofs.lemmas.Bool.{and_from, and_parts}
 use Rattle.cobol_syntax.specs.declared.place.Place.{Place}
-use Rattle.cobol_syntax.specs.declared.place.Sub.{Sub}
 use Rattle.cobol_syntax.specs.declared.expr.Expr.{Expr}
 use Rattle.cobol_syntax.specs.declared.cond.Condition.{Condition, out-Condition}
 use Rattle.cobol_syntax.specs.declared.cond.CondForm.{CondForm}
@@ -14,12 +13,10 @@ use Rattle.cond_reader.specs.declared.relation.Piece.{Piece}
 use Rattle.cond_reader.specs.declared.relation.Predicate.{Predicate}
 use Rattle.cond_reader.specs.declared.relation.Predicate.TheVariants as predicate
 use Rattle.cond_reader.specs.Text.{Text}
-use Rattle.cond_reader.specs.Relations.{class, condition, begin_of, end_of, negated_if, compared, related, asked, said, or_else, both, either, enclosed, denied}
-use Rattle.cond_reader.specs.Grammar.{Is, IsPlace, Between}
-use Rattle.cond_reader.specs.ExprGrammar.{IsOperand, IsExpr}
+use Rattle.cond_reader.specs.Relations.{condition, begin_of, end_of, negated_if, compared, related, asked, said, or_else, both, either, enclosed, denied}
 use Rattle.cond_reader.specs.CondGrammar.{Then, Run, stop, more, Series, with_not, with_meaning, with_right, in_class, Maybe, MaybeNot, Lead, MaybeOrEqual, Operator, Rel, OneOf, Phrase, IsPredicate, IsNamed, Plain, MaybeRel, ShortenedBy, Shortened, Enclosed, Simple, Negation, Part, NextAnd, Conjunction, NextOr, Disjunction, Inside, IsPiece, IsCondition}
 use Rattle.cond_reader.specs.CondGrammar as grammar
-use Rattle.tree_words.specs.Fits.{all_true, if_any, is_part, sub_fits, place_fits, expr_fits, question_fits, condition_fits}
+use Rattle.tree_words.specs.Fits.{all_true, if_any, is_part, sub_fits, expr_fits, question_fits, condition_fits}
 use Rattle.tree_words.proofs.Folds.{fits-Relation, fits-Class, fits-Sign, fits-Named, fits-Not, fits-And, fits-Or, condition_out, fits-rolled}
 use Rattle.tree_words.proofs.Parts.{Taken, TakenBy, and_3, part-taken}
 use Rattle.tree_words.proofs.Exprs.{names-taken, subscripts-passed, place-taken, expr-taken}
@@ -94,8 +91,8 @@ module _ (words : ℕ) where
       let (second, right) = and_parts (condition_fits words b.condition) (last_fits b.last) other in
       let asks = fits-And words a.condition b.condition ∙ and_from (condition_fits words a.condition) (condition_fits words b.condition) first second in
       and_from (condition_fits words (condition (begin_of a.condition) (end_of b.condition) (form.And a.condition b.condition))) (last_fits (or_else b.last a.last))
-          (built (begin_of a.condition) (end_of b.condition) (form.And a.condition b.condition) (spanned a.condition b.condition first second) asks)
-          (kept b.last a.last right left)
+      (built (begin_of a.condition) (end_of b.condition) (form.And a.condition b.condition) (spanned a.condition b.condition first second) asks)
+      (kept b.last a.last right left)
 
   either-built : (a b : Piece) → piece_fits a ≡ true → piece_fits b ≡ true → piece_fits (either a b) ≡ true
   unfolding either
@@ -104,8 +101,8 @@ module _ (words : ℕ) where
       let (second, right) = and_parts (condition_fits words b.condition) (last_fits b.last) other in
       let asks = fits-Or words a.condition b.condition ∙ and_from (condition_fits words a.condition) (condition_fits words b.condition) first second in
       and_from (condition_fits words (condition (begin_of a.condition) (end_of b.condition) (form.Or a.condition b.condition))) (last_fits (or_else b.last a.last))
-          (built (begin_of a.condition) (end_of b.condition) (form.Or a.condition b.condition) (spanned a.condition b.condition first second) asks)
-          (kept b.last a.last right left)
+      (built (begin_of a.condition) (end_of b.condition) (form.Or a.condition b.condition) (spanned a.condition b.condition first second) asks)
+      (kept b.last a.last right left)
 
   enclosed-built : (i j : ℕ) (p : Piece) → is_part words i j ≡ true → piece_fits p ≡ true → piece_fits (enclosed i j p) ≡ true
   unfolding enclosed
@@ -125,25 +122,25 @@ module _ (words : ℕ) where
 module _ (words : ℕ) {A B : Type 0} {Item : A → ℕ → ℕ → B → Type 0} {add : A → B → A} (fits_all : A → Bool) (fits_one : B → Bool)
     (item : (a : A) (i j : ℕ) (b : B) → Item a i j b → TakenBy words i j (fits_all a) (fits_one b))
     (added : (a : A) (b : B) → fits_all a ≡ true → fits_one b ≡ true → fits_all (add a b) ≡ true)
-    where
-  run-grows : {a c : A} {i j : ℕ} → Run Item add a i j c → i ≤ j
-  run-grows stop = omega arith
-  run-grows (more {a = a} {i = i} {k = k} {b = b} one others) = omega (arith, (item a i k b one).grows, run-grows others)
+  where
+    run-grows : {a c : A} {i j : ℕ} → Run Item add a i j c → i ≤ j
+    run-grows stop = omega arith
+    run-grows (more {a = a} {i = i} {k = k} {b = b} one others) = omega (arith, (item a i k b one).grows, run-grows others)
 
-  run-fits : {a c : A} {i j : ℕ} → Run Item add a i j c → j ≤ words → fits_all a ≡ true → fits_all c ≡ true
-  run-fits stop within fit = fit
-  run-fits (more {a = a} {i = i} {k = k} {b = b} one others) within fit =
-      run-fits others within (added a b fit ((item a i k b one).fit (omega (arith, run-grows others, within)) fit))
+    run-fits : {a c : A} {i j : ℕ} → Run Item add a i j c → j ≤ words → fits_all a ≡ true → fits_all c ≡ true
+    run-fits stop within fit = fit
+    run-fits (more {a = a} {i = i} {k = k} {b = b} one others) within fit =
+        run-fits others within (added a b fit ((item a i k b one).fit (omega (arith, run-grows others, within)) fit))
 
-  series-taken : {First : ℕ → ℕ → A → Type 0} (before : Bool)
-      → ((i j : ℕ) (x : A) → First i j x → TakenBy words i j before (fits_all x))
-      → (i j : ℕ) (a : A) → Series First Item add i j a → TakenBy words i j before (fits_all a)
-  series-taken before first i j a w =
-      let taken = first i w.middle w.first w.one in
-      record {
-        grows = omega (arith, taken.grows, run-grows w.others);
-        fit = λ within given. run-fits w.others within (taken.fit (omega (arith, run-grows w.others, within)) given);
-      }
+    series-taken : {First : ℕ → ℕ → A → Type 0} (before : Bool)
+        → ((i j : ℕ) (x : A) → First i j x → TakenBy words i j before (fits_all x))
+        → (i j : ℕ) (a : A) → Series First Item add i j a → TakenBy words i j before (fits_all a)
+    series-taken before first i j a w =
+        let taken = first i w.middle w.first w.one in
+        record {
+          grows = omega (arith, taken.grows, run-grows w.others);
+          fit = λ within given. run-fits w.others within (taken.fit (omega (arith, run-grows w.others, within)) given);
+        }
 
 -- ---- words of relations
 
@@ -203,7 +200,7 @@ module _ (words : ℕ) (t : Text) where
             let part = part-taken words i j grows within in
             ap (piece_fits words) w.is
             ∙ asked-built words i j false (form.Named place) part
-                (fits-Named words place ∙ and_3 (is_part words i j) (all_true (map (sub_fits words) w.xs)) true part (subs.fit within) refl);
+            (fits-Named words place ∙ and_3 (is_part words i j) (all_true (map (sub_fits words) w.xs)) true part (subs.fit within) refl);
       }
 
   plain-taken : (level i j : ℕ) (p : Piece) → Plain t level i j p → Taken words i j (piece_fits words p)
@@ -216,7 +213,7 @@ module _ (words : ℕ) (t : Text) where
         fit = λ within.
             ap (piece_fits words) w.is
             ∙ asked-built words i j (w.second.0) (form.Class w.first (w.second.1)) (part-taken words i j grows within)
-                (fits-Class words w.first (w.second.1) ∙ place.fit (omega (arith, later, within)));
+            (fits-Class words w.first (w.second.1) ∙ place.fit (omega (arith, later, within)));
       }
   plain-taken level i j p (grammar.test w) =
       let left = expr-taken words t level i w.middle w.first w.one in
@@ -244,84 +241,84 @@ module _ (words : ℕ) (t : Text) where
 
   module _ (level : ℕ) (Inner : Option Last → ℕ → ℕ → Piece → Type 0)
       (inner : (last : Option Last) (i j : ℕ) (p : Piece) → Inner last i j p → TakenBy words i j (last_fits words last) (piece_fits words p))
-      where
-    enclosed-taken : (last : Option Last) (i j : ℕ) (p : Piece) → Enclosed t level Inner last i j p → TakenBy words i j (last_fits words last) (piece_fits words p)
-    enclosed-taken last i j p w =
-        let taken = inner last w.between.start w.between.end w.inner w.between.inner in
-        let grows : i < j = omega (arith, w.between.open_mark.next_is, taken.grows, w.between.close_mark.next_is) in
-        record {
-          grows = grows;
-          fit = λ within given.
-              ap (piece_fits words) w.is
-              ∙ enclosed-built words i j w.inner (part-taken words i j grows within) (taken.fit (omega (arith, w.between.close_mark.next_is, within)) given);
-        }
+    where
+      enclosed-taken : (last : Option Last) (i j : ℕ) (p : Piece) → Enclosed t level Inner last i j p → TakenBy words i j (last_fits words last) (piece_fits words p)
+      enclosed-taken last i j p w =
+          let taken = inner last w.between.start w.between.end w.inner w.between.inner in
+          let grows : i < j = omega (arith, w.between.open_mark.next_is, taken.grows, w.between.close_mark.next_is) in
+          record {
+            grows = grows;
+            fit = λ within given.
+                ap (piece_fits words) w.is
+                ∙ enclosed-built words i j w.inner (part-taken words i j grows within) (taken.fit (omega (arith, w.between.close_mark.next_is, within)) given);
+          }
 
-    simple-taken : (last : Option Last) (i j : ℕ) (p : Piece) → Simple t level Inner last i j p → TakenBy words i j (last_fits words last) (piece_fits words p)
-    simple-taken last i j p (grammar.plain w) =
-        let taken = plain-taken level i j p w in
-        record { grows = taken.grows; fit = λ within given. taken.fit within }
-    simple-taken last i j p (grammar.parenthesized w) = enclosed-taken last i j p w
+      simple-taken : (last : Option Last) (i j : ℕ) (p : Piece) → Simple t level Inner last i j p → TakenBy words i j (last_fits words last) (piece_fits words p)
+      simple-taken last i j p (grammar.plain w) =
+          let taken = plain-taken level i j p w in
+          record { grows = taken.grows; fit = λ within given. taken.fit within }
+      simple-taken last i j p (grammar.parenthesized w) = enclosed-taken last i j p w
 
-    negation-taken : (last : Option Last) (i j : ℕ) (p : Piece) → Negation t level Inner last i j p → TakenBy words i j (last_fits words last) (piece_fits words p)
-    negation-taken last i j p (grammar.affirmed w) = simple-taken last i j p w
-    negation-taken last i j p (grammar.denial {k = k} {p = q} word w) =
-        let taken = simple-taken last k j q w in
-        let grows : i < j = omega (arith, word.next_is, taken.grows) in
-        record { grows = grows; fit = λ within given. denied-built words i j q (part-taken words i j grows within) (taken.fit within given) }
+      negation-taken : (last : Option Last) (i j : ℕ) (p : Piece) → Negation t level Inner last i j p → TakenBy words i j (last_fits words last) (piece_fits words p)
+      negation-taken last i j p (grammar.affirmed w) = simple-taken last i j p w
+      negation-taken last i j p (grammar.denial {k = k} {p = q} word w) =
+          let taken = simple-taken last k j q w in
+          let grows : i < j = omega (arith, word.next_is, taken.grows) in
+          record { grows = grows; fit = λ within given. denied-built words i j q (part-taken words i j grows within) (taken.fit within given) }
 
-    part-read : (follows : Bool) (last : Option Last) (i j : ℕ) (p : Piece) → Part t level Inner follows last i j p → TakenBy words i j (last_fits words last) (piece_fits words p)
-    part-read follows last i j p (grammar.full w) = negation-taken last i j p w
-    part-read follows last i j p (grammar.shortened is w) = shortened-taken level last i j p w
+      part-read : (follows : Bool) (last : Option Last) (i j : ℕ) (p : Piece) → Part t level Inner follows last i j p → TakenBy words i j (last_fits words last) (piece_fits words p)
+      part-read follows last i j p (grammar.full w) = negation-taken last i j p w
+      part-read follows last i j p (grammar.shortened is w) = shortened-taken level last i j p w
 
-    -- with what stands before all
-    abbrev all_fit : Option Last → Piece → Bool
-    all_fit last p = piece_fits words p && last_fits words last
+      -- with what stands before all
+      abbrev all_fit : Option Last → Piece → Bool
+      all_fit last p = piece_fits words p && last_fits words last
 
-    with-last : (last : Option Last) (i j : ℕ) (p : Piece) → TakenBy words i j (last_fits words last) (piece_fits words p) → TakenBy words i j (last_fits words last) (all_fit last p)
-    with-last last i j p taken = record {
-      grows = taken.grows;
-      fit = λ within given. and_from (piece_fits words p) (last_fits words last) (taken.fit within given) given;
-    }
+      with-last : (last : Option Last) (i j : ℕ) (p : Piece) → TakenBy words i j (last_fits words last) (piece_fits words p) → TakenBy words i j (last_fits words last) (all_fit last p)
+      with-last last i j p taken = record {
+        grows = taken.grows;
+        fit = λ within given. and_from (piece_fits words p) (last_fits words last) (taken.fit within given) given;
+      }
 
-    without-last : (last : Option Last) (i j : ℕ) (p : Piece) → TakenBy words i j (last_fits words last) (all_fit last p) → TakenBy words i j (last_fits words last) (piece_fits words p)
-    without-last last i j p taken = record {
-      grows = taken.grows;
-      fit = λ within given. (and_parts (piece_fits words p) (last_fits words last) (taken.fit within given)).0;
-    }
+      without-last : (last : Option Last) (i j : ℕ) (p : Piece) → TakenBy words i j (last_fits words last) (all_fit last p) → TakenBy words i j (last_fits words last) (piece_fits words p)
+      without-last last i j p taken = record {
+        grows = taken.grows;
+        fit = λ within given. (and_parts (piece_fits words p) (last_fits words last) (taken.fit within given)).0;
+      }
 
-    newest : (last : Option Last) (p : Piece) → all_fit last p ≡ true → last_fits words (or_else p.last last) ≡ true
-    newest last p fit =
-        let (piece, given) = and_parts (piece_fits words p) (last_fits words last) fit in
-        let (_, own) = and_parts (condition_fits words p.condition) (last_fits words p.last) piece in
-        kept words p.last last own given
+      newest : (last : Option Last) (p : Piece) → all_fit last p ≡ true → last_fits words (or_else p.last last) ≡ true
+      newest last p fit =
+          let (piece, given) = and_parts (piece_fits words p) (last_fits words last) fit in
+          let (_, own) = and_parts (condition_fits words p.condition) (last_fits words p.last) piece in
+          kept words p.last last own given
 
-    joined-by : (last : Option Last) (make : Piece → Piece → Piece) → ((a b : Piece) → piece_fits words a ≡ true → piece_fits words b ≡ true → piece_fits words (make a b) ≡ true)
-        → (a b : Piece) → all_fit last a ≡ true → piece_fits words b ≡ true → all_fit last (make a b) ≡ true
-    joined-by last make made a b one other =
-        let (piece, given) = and_parts (piece_fits words a) (last_fits words last) one in
-        and_from (piece_fits words (make a b)) (last_fits words last) (made a b piece other) given
+      joined-by : (last : Option Last) (make : Piece → Piece → Piece) → ((a b : Piece) → piece_fits words a ≡ true → piece_fits words b ≡ true → piece_fits words (make a b) ≡ true)
+          → (a b : Piece) → all_fit last a ≡ true → piece_fits words b ≡ true → all_fit last (make a b) ≡ true
+      joined-by last make made a b one other =
+          let (piece, given) = and_parts (piece_fits words a) (last_fits words last) one in
+          and_from (piece_fits words (make a b)) (last_fits words last) (made a b piece other) given
 
-    next-and : (last : Option Last) (a : Piece) (i j : ℕ) (b : Piece) → NextAnd t level Inner (or_else a.last last) i j b → TakenBy words i j (all_fit last a) (piece_fits words b)
-    next-and last a i j b w =
-        let taken = part-read true (or_else a.last last) w.middle j b w.part in
-        record { grows = omega (arith, w.word.next_is, taken.grows); fit = λ within given. taken.fit within (newest last a given) }
+      next-and : (last : Option Last) (a : Piece) (i j : ℕ) (b : Piece) → NextAnd t level Inner (or_else a.last last) i j b → TakenBy words i j (all_fit last a) (piece_fits words b)
+      next-and last a i j b w =
+          let taken = part-read true (or_else a.last last) w.middle j b w.part in
+          record { grows = omega (arith, w.word.next_is, taken.grows); fit = λ within given. taken.fit within (newest last a given) }
 
-    conjunction-taken : (follows : Bool) (last : Option Last) (i j : ℕ) (p : Piece) → Conjunction t level Inner follows last i j p → TakenBy words i j (last_fits words last) (piece_fits words p)
-    conjunction-taken follows last i j p w =
-        without-last last i j p
-            (series-taken words (all_fit last) (piece_fits words) (next-and last) (joined-by last both (both-built words)) (last_fits words last)
-                (λ i j x one. with-last last i j x (part-read follows last i j x one)) i j p w)
+      conjunction-taken : (follows : Bool) (last : Option Last) (i j : ℕ) (p : Piece) → Conjunction t level Inner follows last i j p → TakenBy words i j (last_fits words last) (piece_fits words p)
+      conjunction-taken follows last i j p w =
+          without-last last i j p
+          (series-taken words (all_fit last) (piece_fits words) (next-and last) (joined-by last both (both-built words)) (last_fits words last)
+          (λ i j x one. with-last last i j x (part-read follows last i j x one)) i j p w)
 
-    next-or : (last : Option Last) (a : Piece) (i j : ℕ) (b : Piece) → NextOr t level Inner (or_else a.last last) i j b → TakenBy words i j (all_fit last a) (piece_fits words b)
-    next-or last a i j b w =
-        let taken = conjunction-taken true (or_else a.last last) w.middle j b w.part in
-        record { grows = omega (arith, w.word.next_is, taken.grows); fit = λ within given. taken.fit within (newest last a given) }
+      next-or : (last : Option Last) (a : Piece) (i j : ℕ) (b : Piece) → NextOr t level Inner (or_else a.last last) i j b → TakenBy words i j (all_fit last a) (piece_fits words b)
+      next-or last a i j b w =
+          let taken = conjunction-taken true (or_else a.last last) w.middle j b w.part in
+          record { grows = omega (arith, w.word.next_is, taken.grows); fit = λ within given. taken.fit within (newest last a given) }
 
-    disjunction-taken : (last : Option Last) (i j : ℕ) (p : Piece) → Disjunction t level Inner last i j p → TakenBy words i j (last_fits words last) (piece_fits words p)
-    disjunction-taken last i j p w =
-        without-last last i j p
-            (series-taken words (all_fit last) (piece_fits words) (next-or last) (joined-by last either (either-built words)) (last_fits words last)
-                (λ i j x one. with-last last i j x (conjunction-taken false last i j x one)) i j p w)
+      disjunction-taken : (last : Option Last) (i j : ℕ) (p : Piece) → Disjunction t level Inner last i j p → TakenBy words i j (last_fits words last) (piece_fits words p)
+      disjunction-taken last i j p w =
+          without-last last i j p
+          (series-taken words (all_fit last) (piece_fits words) (next-or last) (joined-by last either (either-built words)) (last_fits words last)
+          (λ i j x one. with-last last i j x (conjunction-taken false last i j x one)) i j p w)
 
   inside-taken : (level : ℕ) (last : Option Last) (i j : ℕ) (p : Piece) → Inside t level last i j p → TakenBy words i j (last_fits words last) (piece_fits words p)
   inside-taken zero last i j p w = absurd w

@@ -1,10 +1,7 @@
 -- What holds of the entries of the environment and data divisions.
-use Rattle.std.proofs.Common.{ℕ, zero, suc, ◌+◌, ◌<◌, ◌≤◌, nat_lt, nat_le, ◌≡◌, refl, sym, ap, ◌∙◌, Bool, true, false, ◌&&◌, List, [], ◌∷◌, ◌++◌, map, Option, Some, None, arith}
+use Rattle.std.proofs.Common.{ℕ, ◌<◌, ◌≤◌, nat_lt, ◌≡◌, refl, ap, ◌∙◌, Bool, true, List, map, Option, None, arith}
 use Rattle.std.proofs.lemmas.Bool.{and_from, and_parts, lt-ltb}
-use Rattle.decimal_bytes.specs.declared.form.Scaled.{Scaled}
 use Rattle.cobol_syntax.specs.declared.expr.Operand.{Operand}
-use Rattle.cobol_syntax.specs.declared.place.Place.{Place}
-use Rattle.cobol_syntax.specs.declared.program.Entry.{Entry}
 use Rattle.cobol_syntax.specs.declared.program.FileEntry.{FileEntry}
 use Rattle.cobol_syntax.specs.declared.program.Range.{Range}
 use Rattle.cobol_syntax.specs.declared.program.Select.{Select}
@@ -12,8 +9,6 @@ use Rattle.cobol_syntax.specs.declared.program.Usage.{Usage}
 use Rattle.decimal_bytes.specs.declared.form.SignPlace.{SignPlace}
 use Rattle.cond_reader.specs.declared.symbol.Symbol.{Symbol}
 use Rattle.cond_reader.specs.Text.{spelling}
-use Rattle.cond_reader.specs.Reads.{with_last}
-use Rattle.cond_reader.specs.Grammar.{Is, Name, Chain, alone}
 use Rattle.program_reader.specs.declared.entry.Draft.{Draft}
 use Rattle.program_reader.specs.declared.entry.EntryPart.{EntryPart}
 use Rattle.program_reader.specs.declared.entry.EntryPart.TheVariants as part
@@ -27,13 +22,12 @@ use Rattle.program_reader.specs.Views.{View}
 use Rattle.program_reader.specs.Selects as selects
 use Rattle.program_reader.specs.Files as files
 use Rattle.program_reader.specs.Entries as entries
-use Rattle.program_reader.specs.CondEntries as conds
 use Rattle.program_reader.specs.Drafts.{plain_entry}
-use Rattle.program_reader.specs.Grammar.{Then, Either, Maybe, Any, A, S, Period, IsOrAre, AnyName, Header, Headers, NameUnit, Count, IsConstant, LongestPlace}
-use Rattle.program_reader.specs.EntryGrammar.{Clauses, SelectClause, External, IsSelect, RecordOrRecords, AnyCount, Idle, FileClause, IsFile, SignEnd, UsageWord, PictureText, EntryClause, EntryName, Redefined, IsItem, IsRange, IsCondition, IsDraft}
+use Rattle.program_reader.specs.Grammar.{Then, Either, Maybe, Any, A, S, IsOrAre, Header, Headers, NameUnit, Count, IsConstant}
+use Rattle.program_reader.specs.EntryGrammar.{Clauses, SelectClause, External, IsSelect, RecordOrRecords, AnyCount, Idle, FileClause, IsFile, SignEnd, UsageWord, EntryClause, EntryName, Redefined, IsItem, IsRange, IsCondition, IsDraft}
 use Rattle.tree_words.specs.Fits.{all_true, if_any, is_numeral, place_fits, operand_fits, range_fits, entry_fits, file_fits, select_fits}
 use Rattle.tree_words.proofs.Numerals.{numeral-fits}
-use Rattle.tree_words.proofs.Parts.{Taken, Passed, and_3, all-last, all-one, word-taken, chain-taken}
+use Rattle.tree_words.proofs.Parts.{Taken, and_3, all-last, all-one, word-taken, chain-taken}
 use Rattle.tree_words.proofs.Exprs.{name-taken, place-taken}
 
 -- ---- parts without a tree: at least one word, or none
@@ -71,15 +65,15 @@ module _ {P : ℕ → ℕ → Type 0} where
 module _ (words : ℕ) {D P : Type 0} {has : D → P → Bool} {add : D → P → D} {Clause : ℕ → ℕ → P → Type 0} (fits_all : D → Bool) (fits_one : P → Bool)
     (item : (i j : ℕ) (p : P) → Clause i j p → Taken words i j (fits_one p))
     (added : (d : D) (p : P) → fits_all d ≡ true → fits_one p ≡ true → fits_all (add d p) ≡ true)
-    where
-  clauses-grow : (d e : D) (i j : ℕ) → Clauses has add Clause d i j e → i ≤ j
-  clauses-grow d e i j Clauses.stop = omega arith
-  clauses-grow d e i j (Clauses.more {p = p} {m = m} one new others) = omega (arith, (item i m p one).grows, clauses-grow (add d p) e m j others)
+  where
+    clauses-grow : (d e : D) (i j : ℕ) → Clauses has add Clause d i j e → i ≤ j
+    clauses-grow d e i j Clauses.stop = omega arith
+    clauses-grow d e i j (Clauses.more {p = p} {m = m} one new others) = omega (arith, (item i m p one).grows, clauses-grow (add d p) e m j others)
 
-  clauses-fit : (d e : D) (i j : ℕ) → Clauses has add Clause d i j e → j ≤ words → fits_all d ≡ true → fits_all e ≡ true
-  clauses-fit d e i j Clauses.stop within fit = fit
-  clauses-fit d e i j (Clauses.more {p = p} {m = m} one new others) within fit =
-      clauses-fit (add d p) e m j others within (added d p fit ((item i m p one).fit (omega (arith, clauses-grow (add d p) e m j others, within))))
+    clauses-fit : (d e : D) (i j : ℕ) → Clauses has add Clause d i j e → j ≤ words → fits_all d ≡ true → fits_all e ≡ true
+    clauses-fit d e i j Clauses.stop within fit = fit
+    clauses-fit d e i j (Clauses.more {p = p} {m = m} one new others) within fit =
+        clauses-fit (add d p) e m j others within (added d p fit ((item i m p one).fit (omega (arith, clauses-grow (add d p) e m j others, within))))
 
 module _ (words : ℕ) (v : View) where
   -- ---- words
@@ -166,7 +160,7 @@ module _ (words : ℕ) (v : View) where
         fit = λ within.
             ap (select_fits words) w.is
             ∙ and_from (nat_lt i words) (if_any (place_fits words) w.ps.status) (word-taken words i j grows within)
-                (clauses-fit words select_parts_fit select_part_fits select-clause-taken select-added selects.no_parts w.ps w.at_clauses w.at_period w.clauses (omega (arith, period, within)) refl);
+            (clauses-fit words select_parts_fit select_part_fits select-clause-taken select-added selects.no_parts w.ps w.at_clauses w.at_period w.clauses (omega (arith, period, within)) refl);
       }
 
   -- ---- FD
@@ -216,7 +210,7 @@ module _ (words : ℕ) (v : View) where
         fit = λ within.
             ap (file_fits words) w.is
             ∙ and_3 (nat_lt i words) (contains_fits w.c) true (word-taken words i j grows within)
-                (clauses-fit words contains_fits file_part_fits file-clause-taken file-added None w.c w.at_clauses w.at_period w.clauses (omega (arith, period, within)) refl) refl;
+            (clauses-fit words contains_fits file_part_fits file-clause-taken file-added None w.c w.at_clauses w.at_period w.clauses (omega (arith, period, within)) refl) refl;
       }
 
   -- ---- data description entries
@@ -300,7 +294,7 @@ module _ (words : ℕ) (v : View) where
         grows = grows;
         fit = λ within.
             clauses-fit words draft_fits part_fits clause-taken entry-added plain d w.at_clauses w.at_period w.clauses (omega (arith, period, within))
-                (plain-fits i j w.l w.n w.r grows within);
+            (plain-fits i j w.l w.n w.r grows within);
       }
 
   range-taken : (i j : ℕ) (r : Range) → IsRange v i j r → Taken words i j (range_fits words r)
@@ -322,8 +316,8 @@ module _ (words : ℕ) (v : View) where
       let name = name-taken words v.text w.at_name w.at_value w.n w.name in
       let value = then-less (either-less (term-less _) (term-less _)) (maybe-most (most is-or-are-less)) w.at_value w.at_ranges w.value in
       let ranges =
-          chain-taken words (λ (rs : List Range). all_true (map (range_fits words) rs)) (range_fits words) range-taken (all-last (range_fits words)) (range_fits words) range-taken
-              (all-one (range_fits words)) w.at_ranges w.at_period w.rs w.ranges
+      chain-taken words (λ (rs : List Range). all_true (map (range_fits words) rs)) (range_fits words) range-taken (all-last (range_fits words)) (range_fits words) range-taken
+      (all-one (range_fits words)) w.at_ranges w.at_period w.rs w.ranges
       in
       let period = symbol-less _ w.at_period j w.period in
       let grows : i < j = omega (arith, first, name.grows, value, ranges.grows, period) in
@@ -332,7 +326,7 @@ module _ (words : ℕ) (v : View) where
         fit = λ within.
             ap draft_fits w.is
             ∙ and_3 (nat_lt i words) (nat_lt 0 words) (all_true (map (range_fits words) w.rs)) (word-taken words i j grows within)
-                (lt-ltb 0 words (omega (arith, grows, within))) (ranges.fit (omega (arith, period, within)));
+            (lt-ltb 0 words (omega (arith, grows, within))) (ranges.fit (omega (arith, period, within)));
       }
 
   pub draft-taken : (i j : ℕ) (d : Draft) → IsDraft v i j d → Taken words i j (entry_fits words d.entry)

@@ -1,28 +1,23 @@
 -- What holds of places, operands and expressions that are read.
-use Rattle.std.proofs.Common.{ℕ, zero, suc, ◌+◌, ◌<◌, ◌≤◌, nat_lt, nat_le, ◌≡◌, refl, sym, ap, ◌∙◌, Bool, true, false, ◌&&◌, List, [], ◌∷◌, ◌++◌, map, Option, Some, None, arith}
-use Rattle.std.proofs.lemmas.Bool.{and_from, and_parts}
-use Rattle.decimal_bytes.specs.declared.form.Scaled.{Scaled}
+use Rattle.std.proofs.Common.{ℕ, zero, suc, ◌+◌, ◌<◌, nat_lt, ◌≡◌, refl, ap, ◌∙◌, Bool, true, List, map, Option, arith}
+use Rattle.std.proofs.lemmas.Bool.{and_from}
 use Rattle.cobol_syntax.specs.declared.place.Sub.{Sub}
 use Rattle.cobol_syntax.specs.declared.place.Part.{Part}
 use Rattle.cobol_syntax.specs.declared.place.Place.{Place}
 use Rattle.cobol_syntax.specs.declared.expr.Operand.{Operand}
-use Rattle.cobol_syntax.specs.declared.expr.Operand.TheVariants as o
-use Rattle.cobol_syntax.specs.declared.expr.Expr.{Expr, Expr-F}
-use Rattle.cobol_syntax.specs.declared.expr.Expr.TheVariants as e
+use Rattle.cobol_syntax.specs.declared.expr.Expr.{Expr}
 use Rattle.cond_reader.specs.declared.symbol.Symbol.{Symbol}
 use Rattle.cond_reader.specs.declared.expr.Operator.{Operator}
 use Rattle.cond_reader.specs.declared.expr.Operator.TheVariants as op
 use Rattle.cond_reader.specs.Text.{Text, spelling}
-use Rattle.cond_reader.specs.Chars.{numeral}
-use Rattle.cond_reader.specs.Reads.{with_last}
-use Rattle.cond_reader.specs.Exprs.{operation, joined, sum_operator, product_operator}
-use Rattle.cond_reader.specs.Grammar.{Is, Name, Names, Qualifier, alone, Many, Chain, IsSub, number, names, SubList, Between, MaybeSub, absent, given, StartAndLength, MaybeSubscripts, plain, subscripts, MaybeReference, uncut, cut, IsPlace}
+use Rattle.cond_reader.specs.Exprs.{operation, joined}
+use Rattle.cond_reader.specs.Grammar.{Name, Names, Qualifier, IsSub, number, names, SubList, Between, MaybeSub, absent, given, StartAndLength, MaybeSubscripts, plain, subscripts, MaybeReference, uncut, cut, IsPlace}
 use Rattle.cond_reader.specs.ExprGrammar.{After, Parenthesized, Atom, Factor, Term, Sum, Inside, IsExpr, IsOperand, itself}
 use Rattle.cond_reader.specs.ExprGrammar as grammar
-use Rattle.tree_words.specs.Fits.{all_true, if_any, is_part, is_numeral, sub_fits, cut_fits, place_fits, operand_fits, expr_layer, expr_fits}
+use Rattle.tree_words.specs.Fits.{all_true, if_any, is_part, is_numeral, sub_fits, cut_fits, place_fits, operand_fits, expr_fits}
 use Rattle.tree_words.proofs.Folds.{fits-One, fits-Minus, fits-Add, fits-Sub, fits-Mul, fits-Div}
 use Rattle.tree_words.proofs.Numerals.{numeral-fits}
-use Rattle.tree_words.proofs.Parts.{Taken, Passed, and_3, all-last, all-one, part-taken, word-taken, many-grows, many-fits, chain-taken}
+use Rattle.tree_words.proofs.Parts.{Taken, Passed, and_3, all-last, all-one, part-taken, word-taken, chain-taken}
 
 abbrev any : {A : Type 0} → A → Bool
 any x = true
@@ -96,9 +91,9 @@ module _ (words : ℕ) (t : Text) where
         fit = λ within.
             ap (place_fits words) w.is
             ∙ and_3 (is_part words i j) (all_true (map (sub_fits words) w.xs)) (if_any (cut_fits words) w.c)
-                (part-taken words i j grows within)
-                (subs.fit (omega (arith, reference.grows, within)))
-                (reference.fit within);
+            (part-taken words i j grows within)
+            (subs.fit (omega (arith, reference.grows, within)))
+            (reference.fit within);
       }
 
   pub operand-taken : (level i j : ℕ) (x : Operand) → IsOperand t level i j x → Taken words i j (operand_fits words x)

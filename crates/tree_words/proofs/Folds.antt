@@ -1,8 +1,8 @@
 -- What it is that a tree fits, by its variants.
-use Rattle.std.proofs.Common.{ℕ, ℤ, ◌≡◌, refl, sym, ap, ◌∙◌, Bool, true, false, ◌&&◌, if◌then◌else◌}
+use Rattle.std.proofs.Common.{ℕ, ℤ, ◌≡◌, ap, ◌∙◌, Bool, ◌&&◌}
 use Rattle.cobol_syntax.specs.declared.place.Place.{Place}
 use Rattle.cobol_syntax.specs.declared.expr.Operand.{Operand}
-use Rattle.cobol_syntax.specs.declared.expr.Expr.{Expr, Expr-F, fold-Expr, map-Expr, out-Expr, fold_out-Expr}
+use Rattle.cobol_syntax.specs.declared.expr.Expr.{Expr, Expr-F, map-Expr, out-Expr, fold_out-Expr}
 use Rattle.cobol_syntax.specs.declared.expr.Expr.TheVariants as e
 use Rattle.cobol_syntax.specs.declared.cond.Rel.{Rel}
 use Rattle.cobol_syntax.specs.declared.cond.Condition.{Condition, out-Condition, roll-Condition, fold_out-Condition}

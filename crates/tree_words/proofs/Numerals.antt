@@ -1,5 +1,5 @@
 -- What is read as a number has from 1 to 18 digits, and is below the power of ten of so many.
-use Rattle.std.proofs.Common.{ℕ, ℤ, zero, suc, ◌+◌, ◌-◌, ◌*◌, ◌^◌, ◌<◌, ◌≤◌, ◌==◌, nat_lt, nat_le, ◌≡◌, refl, sym, ap, subst, ◌∙◌, Bool, true, false, ◌&&◌, List, [], ◌∷◌, length, Option, Some, None, pos, negsuc, ◌-ℤ◌, if◌then◌else◌, option_and_then, arith}
+use Rattle.std.proofs.Common.{ℕ, zero, suc, ◌+◌, ◌-◌, ◌*◌, ◌^◌, ◌<◌, ◌≤◌, ◌==◌, nat_lt, nat_le, ◌≡◌, refl, sym, ap, subst, Bool, true, false, List, [], ◌∷◌, length, Option, Some, None, pos, negsuc, ◌-ℤ◌, if◌then◌else◌, option_and_then, arith}
 use Rattle.std.specs.Char.{is_ascii_digit}
 use Rattle.std.specs.Str.{all_ascii_digits}
 use Rattle.std.proofs.Math.Nat.{pow-zero, pow-suc}
@@ -20,12 +20,12 @@ number-below [] digits = omega (arith, pow-zero 10)
 number-below (b ∷ bs) digits =
     let (first, others) = and_parts (is_ascii_digit b) (all_ascii_digits bs) digits in
     subst (λ (p : ℕ). (b - 48) * 10 ^ length bs + number bs < p) (sym (pow-suc 10 (length bs)))
-        (mul-add-lt (b - 48) (10 ^ length bs) (number bs) 10 (digit-below b first) (number-below bs others))
+    (mul-add-lt (b - 48) (10 ^ length bs) (number bs) 10 (digit-below b first) (number-below bs others))
 
 both-below : (front ds : List ℕ) → all_ascii_digits front ≡ true → all_ascii_digits ds ≡ true → number front * 10 ^ length ds + number ds < 10 ^ (length front + length ds)
 both-below front ds one other =
     let less : number front * 10 ^ length ds + number ds < 10 ^ length ds * 10 ^ length front =
-        mul-add-lt (number front) (10 ^ length ds) (number ds) (10 ^ length front) (number-below front one) (number-below ds other)
+    mul-add-lt (number front) (10 ^ length ds) (number ds) (10 ^ length front) (number-below front one) (number-below ds other)
     in
     let whole : 10 ^ (length front + length ds) ≡ 10 ^ length front * 10 ^ length ds = pow-add 10 (length front) (length ds) in
     omega (arith, less, whole)
@@ -42,7 +42,7 @@ scaled-fits is_negative front ds one other some few =
     let digits = length front + length ds in
     let value = number front * 10 ^ length ds + number ds in
     let below : magnitude (if is_negative then pos 0 -ℤ pos value else pos value) < 10 ^ digits =
-        subst (λ (m : ℕ). m < 10 ^ digits) (sym (magnitude-signed is_negative value)) (both-below front ds one other)
+    subst (λ (m : ℕ). m < 10 ^ digits) (sym (magnitude-signed is_negative value)) (both-below front ds one other)
     in
     and_from _ _ (le-leb 1 digits some) (and_from _ _ (le-leb digits 18 few) (and_from _ _ (le-leb (length ds) digits (omega arith)) (lt-ltb _ _ below)))
 
@@ -61,7 +61,7 @@ decided is_negative front rest true n is e =
     let (_, more_3) = and_parts (is_ended rest) _ more_2 in
     let (some, few) = and_parts (nat_lt 0 count) (nat_le count 18) more_3 in
     subst (λ (m : Scaled × ℕ). is_numeral (m.0) (m.1) ≡ true) (ap (value_or n) e)
-        (scaled-fits is_negative front (decimals rest) one other (ltb-true 0 count some) (leb-true count 18 few))
+    (scaled-fits is_negative front (decimals rest) one other (ltb-true 0 count some) (leb-true count 18 few))
 
 signed-fits : (is_negative : Bool) (text : List ℕ) (n : Scaled × ℕ) → signed is_negative text ≡ Some n → is_numeral (n.0) (n.1) ≡ true
 unfolding signed decimal

@@ -1,8 +1,7 @@
 -- What every production has: it takes a word at least, or none, and where it has ended within the words its tree fits.
-use Rattle.std.proofs.Common.{ℕ, zero, suc, ◌+◌, ◌<◌, ◌≤◌, nat_lt, nat_le, ◌≡◌, refl, sym, ap, ◌∙◌, Bool, true, false, ◌&&◌, List, [], ◌∷◌, ◌++◌, map, Option, Some, None, arith}
-use Rattle.std.proofs.lemmas.Bool.{and_from, and_parts, lt-ltb, le-leb, ltb-true, leb-true}
+use Rattle.std.proofs.Common.{ℕ, ◌<◌, ◌≤◌, nat_lt, nat_le, ◌≡◌, refl, Bool, true, ◌&&◌, List, [], ◌∷◌, ◌++◌, map, arith}
+use Rattle.std.proofs.lemmas.Bool.{and_from, and_parts, lt-ltb, le-leb}
 use Rattle.cond_reader.specs.Grammar.{Many, Chain, stop, more}
-use Rattle.cond_reader.specs.Reads.{with_last}
 use Rattle.tree_words.specs.Fits.{all_true, is_part}
 
 -- a production that takes a word
@@ -55,21 +54,21 @@ module _ (words : ℕ) where
   module _ {A B : Type 0} {Item : ℕ → ℕ → B → Type 0} {add : A → B → A} (fits_all : A → Bool) (fits_one : B → Bool)
       (item : (i j : ℕ) (b : B) → Item i j b → Taken words i j (fits_one b))
       (added : (a : A) (b : B) → fits_all a ≡ true → fits_one b ≡ true → fits_all (add a b) ≡ true)
-      where
-    pub many-grows : {a c : A} {i j : ℕ} → Many Item add a i j c → i ≤ j
-    many-grows stop = omega arith
-    many-grows (more {i = i} {k = k} {b = b} one others) = omega (arith, (item i k b one).grows, many-grows others)
+    where
+      pub many-grows : {a c : A} {i j : ℕ} → Many Item add a i j c → i ≤ j
+      many-grows stop = omega arith
+      many-grows (more {i = i} {k = k} {b = b} one others) = omega (arith, (item i k b one).grows, many-grows others)
 
-    pub many-fits : {a c : A} {i j : ℕ} → Many Item add a i j c → j ≤ words → fits_all a ≡ true → fits_all c ≡ true
-    many-fits stop within fit = fit
-    many-fits (more {a = a} {i = i} {k = k} {b = b} one others) within fit =
-        many-fits others within (added a b fit ((item i k b one).fit (omega (arith, many-grows others, within))))
+      pub many-fits : {a c : A} {i j : ℕ} → Many Item add a i j c → j ≤ words → fits_all a ≡ true → fits_all c ≡ true
+      many-fits stop within fit = fit
+      many-fits (more {a = a} {i = i} {k = k} {b = b} one others) within fit =
+          many-fits others within (added a b fit ((item i k b one).fit (omega (arith, many-grows others, within))))
 
-    pub chain-taken : {C : Type 0} {First : ℕ → ℕ → C → Type 0} {start : C → A} (fits_first : C → Bool)
-        → ((i j : ℕ) (x : C) → First i j x → Taken words i j (fits_first x))
-        → ((x : C) → fits_first x ≡ true → fits_all (start x) ≡ true)
-        → (i j : ℕ) (a : A) → Chain First start Item add i j a → Taken words i j (fits_all a)
-    chain-taken fits_first first started i j a w = record {
-      grows = omega (arith, (first i w.middle w.first w.one).grows, many-grows w.others);
-      fit = λ within. many-fits w.others within (started w.first ((first i w.middle w.first w.one).fit (omega (arith, many-grows w.others, within))));
-    }
+      pub chain-taken : {C : Type 0} {First : ℕ → ℕ → C → Type 0} {start : C → A} (fits_first : C → Bool)
+          → ((i j : ℕ) (x : C) → First i j x → Taken words i j (fits_first x))
+          → ((x : C) → fits_first x ≡ true → fits_all (start x) ≡ true)
+          → (i j : ℕ) (a : A) → Chain First start Item add i j a → Taken words i j (fits_all a)
+      chain-taken fits_first first started i j a w = record {
+        grows = omega (arith, (first i w.middle w.first w.one).grows, many-grows w.others);
+        fit = λ within. many-fits w.others within (started w.first ((first i w.middle w.first w.one).fit (omega (arith, many-grows w.others, within))));
+      }

@@ -1,5 +1,5 @@
 -- What holds of whole programs that are read.
-use Rattle.std.proofs.Common.{ℕ, zero, suc, ◌+◌, ◌<◌, ◌≤◌, nat_lt, nat_le, ◌≡◌, refl, sym, ap, ◌∙◌, Bool, true, false, ◌&&◌, List, [], ◌∷◌, ◌++◌, map, length, Option, Some, None, arith}
+use Rattle.std.proofs.Common.{ℕ, suc, ◌<◌, ◌≤◌, nat_lt, ◌≡◌, refl, ap, ◌∙◌, Bool, true, ◌&&◌, List, [], ◌∷◌, map, length, arith}
 use Rattle.std.proofs.lemmas.Bool.{and_from, and_parts, lt-ltb}
 use Rattle.y2k_base.specs.declared.word.FileId.{FileId}
 use Rattle.y2k_base.specs.declared.word.Word.{Word}
@@ -10,29 +10,24 @@ use Rattle.cobol_syntax.specs.declared.program.Program.{Program}
 use Rattle.cobol_syntax.specs.declared.program.Select.{Select}
 use Rattle.cobol_syntax.specs.declared.program.Sentence.{Sentence}
 use Rattle.cond_reader.specs.declared.symbol.Symbol.TheVariants as s
-use Rattle.cond_reader.specs.Text.{symbol}
-use Rattle.cond_reader.specs.Reads.{with_last}
-use Rattle.cond_reader.specs.Kinds.{kind_of, text_with}
-use Rattle.cond_reader.specs.Grammar.{Name, Is}
+use Rattle.cond_reader.specs.Kinds.{text_with}
 use Rattle.cond_reader.proofs.Words.{within}
 use Rattle.proc_reader.specs.declared.spot.Spot.{Spot}
-use Rattle.proc_reader.specs.SentenceGrammar.{IsSentence}
 use Rattle.program_reader.specs.declared.data.Data.{Data}
 use Rattle.program_reader.specs.declared.entry.Draft.{Draft}
 use Rattle.program_reader.specs.declared.procedure.Heading.{Heading}
 use Rattle.program_reader.specs.declared.term.Term.{Term}
-use Rattle.program_reader.specs.declared.term.Term.TheVariants as k
 use Rattle.program_reader.specs.Views.{View}
 use Rattle.program_reader.specs.Programs.{with_entries}
-use Rattle.program_reader.specs.Whole.{cond_names, program_of, source_with, view_with}
-use Rattle.program_reader.specs.Grammar.{Then, Maybe, A, S, Period, AnyName, Header, Headers, NameUnit}
-use Rattle.program_reader.specs.ProgramGrammar.{Identification, Computer, Configuration, InputOutput, Environment, IsPictured, IsEntry, FileWithRecords, FileSection, StorageSection, DataDivision, IsHeading, Sentences, IsParagraph, Paragraphs, Chapters, Procedure, IsProgram}
+use Rattle.program_reader.specs.Whole.{cond_names, source_with, view_with}
+use Rattle.program_reader.specs.Grammar.{Period, Header}
+use Rattle.program_reader.specs.ProgramGrammar.{Identification, Computer, Configuration, InputOutput, Environment, IsPictured, IsEntry, FileWithRecords, FileSection, StorageSection, DataDivision, IsHeading, Sentences, IsParagraph, Paragraphs, Chapters, Procedure}
 use Rattle.program_reader.specs.IsReads.{SentenceAt, IsRead}
 use Rattle.tree_words.specs.Fits.{all_true, select_fits, file_fits, entry_fits, sentence_fits, paragraph_fits, program_fits, if_any, operand_fits}
-use Rattle.tree_words.proofs.Parts.{Taken, Passed, and_3, all-last, all-one, word-taken, many-grows, many-fits, chain-taken}
+use Rattle.tree_words.proofs.Parts.{Taken, Passed, and_3, all-last, all-one, many-grows, many-fits, chain-taken}
 use Rattle.tree_words.proofs.Exprs.{name-taken}
 use Rattle.tree_words.proofs.Sentences.{sentence-taken}
-use Rattle.tree_words.proofs.Entries.{Less, Most, then-less, then-most, most, maybe-most, term-less, symbol-less, header-less, headers-less, name-unit-less, select-taken, file-taken, draft-taken}
+use Rattle.tree_words.proofs.Entries.{Most, then-less, then-most, most, maybe-most, symbol-less, header-less, headers-less, name-unit-less, select-taken, file-taken, draft-taken}
 
 module _ (words : ℕ) (v : View) where
   identification-less : (i j : ℕ) (id : List ℕ) → Identification v i j id → i < j
@@ -146,50 +141,50 @@ module _ (words : ℕ) (v : View) where
 
     module _ (IsSentence : ℕ → ℕ → Sentence → Spot → Type 0)
         (sentence : (i n : ℕ) (x : Sentence) (next : Spot) → IsSentence i n x next → Taken words i next.at (sentence_fits words x) × (next.at ≤ words))
-        where
-      abbrev sentences_fit : List Sentence → Bool
-      sentences_fit xs = all_true (map (sentence_fits words) xs)
+      where
+        abbrev sentences_fit : List Sentence → Bool
+        sentences_fit xs = all_true (map (sentence_fits words) xs)
 
-      abbrev paragraphs_fit : List Paragraph → Bool
-      paragraphs_fit ps = all_true (map (paragraph_fits words) ps)
+        abbrev paragraphs_fit : List Paragraph → Bool
+        paragraphs_fit ps = all_true (map (paragraph_fits words) ps)
 
-      sentences-read : (i n : ℕ) (xs : List Sentence) (end : Spot) → i ≤ words → Sentences IsSentence i n xs end → (i ≤ end.at) × (end.at ≤ words) × (sentences_fit xs ≡ true)
-      sentences-read i n xs end few Sentences.stop = (omega arith, few, refl)
-      sentences-read i n xs end few (Sentences.more {x = x} {next = next} {xs = ys} first others) =
-          let (taken, ended) = sentence i n x next first in
-          let (onward, last, rest) = sentences-read next.at next.number ys end ended others in
-          (omega (arith, taken.grows, onward), last, and_from (sentence_fits words x) (sentences_fit ys) (taken.fit ended) rest)
+        sentences-read : (i n : ℕ) (xs : List Sentence) (end : Spot) → i ≤ words → Sentences IsSentence i n xs end → (i ≤ end.at) × (end.at ≤ words) × (sentences_fit xs ≡ true)
+        sentences-read i n xs end few Sentences.stop = (omega arith, few, refl)
+        sentences-read i n xs end few (Sentences.more {x = x} {next = next} {xs = ys} first others) =
+            let (taken, ended) = sentence i n x next first in
+            let (onward, last, rest) = sentences-read next.at next.number ys end ended others in
+            (omega (arith, taken.grows, onward), last, and_from (sentence_fits words x) (sentences_fit ys) (taken.fit ended) rest)
 
-      paragraph-read : (i n : ℕ) (p : Paragraph) (end : Spot) → IsParagraph v IsSentence i n p end → (i ≤ end.at) × (end.at ≤ words) × (paragraph_fits words p ≡ true)
-      paragraph-read i n p end w =
-          let (grows, ended) = heading-less i w.middle w.heading w.head in
-          let (onward, last, fit) = sentences-read w.middle n w.xs end ended w.body in
-          (omega (arith, grows, onward), last, ap (paragraph_fits words) w.is ∙ and_from (nat_lt i words) (sentences_fit w.xs) (lt-ltb i words (omega (arith, grows, ended))) fit)
+        paragraph-read : (i n : ℕ) (p : Paragraph) (end : Spot) → IsParagraph v IsSentence i n p end → (i ≤ end.at) × (end.at ≤ words) × (paragraph_fits words p ≡ true)
+        paragraph-read i n p end w =
+            let (grows, ended) = heading-less i w.middle w.heading w.head in
+            let (onward, last, fit) = sentences-read w.middle n w.xs end ended w.body in
+            (omega (arith, grows, onward), last, ap (paragraph_fits words) w.is ∙ and_from (nat_lt i words) (sentences_fit w.xs) (lt-ltb i words (omega (arith, grows, ended))) fit)
 
-      paragraphs-read : (i n : ℕ) (ps : List Paragraph) (j : ℕ) → Paragraphs v IsSentence i n ps j → paragraphs_fit ps ≡ true
-      paragraphs-read i n ps j Paragraphs.stop = refl
-      paragraphs-read i n ps j (Paragraphs.more {p = p} {end = end} {ps = qs} first others) =
-          let (_, _, fit) = paragraph-read i n p end first in
-          and_from (paragraph_fits words p) (paragraphs_fit qs) fit (paragraphs-read end.at end.number qs j others)
+        paragraphs-read : (i n : ℕ) (ps : List Paragraph) (j : ℕ) → Paragraphs v IsSentence i n ps j → paragraphs_fit ps ≡ true
+        paragraphs-read i n ps j Paragraphs.stop = refl
+        paragraphs-read i n ps j (Paragraphs.more {p = p} {end = end} {ps = qs} first others) =
+            let (_, _, fit) = paragraph-read i n p end first in
+            and_from (paragraph_fits words p) (paragraphs_fit qs) fit (paragraphs-read end.at end.number qs j others)
 
-      unnamed-begins : (i n : ℕ) (xs : List Sentence) (end : Spot) → Sentences IsSentence i n xs end → (xs ≡ [] → ⊥) → i < words
-      unnamed-begins i n xs end Sentences.stop some = absurd (some refl)
-      unnamed-begins i n xs end (Sentences.more {x = x} {next = next} first others) some =
-          let (taken, ended) = sentence i n x next first in omega (arith, taken.grows, ended)
+        unnamed-begins : (i n : ℕ) (xs : List Sentence) (end : Spot) → Sentences IsSentence i n xs end → (xs ≡ [] → ⊥) → i < words
+        unnamed-begins i n xs end Sentences.stop some = absurd (some refl)
+        unnamed-begins i n xs end (Sentences.more {x = x} {next = next} first others) some =
+            let (taken, ended) = sentence i n x next first in omega (arith, taken.grows, ended)
 
-      chapters-read : (i : ℕ) (ps : List Paragraph) (j : ℕ) → i ≤ words → Chapters v IsSentence i ps j → paragraphs_fit ps ≡ true
-      chapters-read i ps j few (Chapters.headed w) = paragraphs-read i 0 ps j w
-      chapters-read i ps j few (Chapters.unnamed {xs = xs} {end = end} {ps = qs} sentences some others) =
-          let begins = unnamed-begins i 0 xs end sentences some in
-          let (_, _, fit) = sentences-read i 0 xs end few sentences in
-          and_from (nat_lt i words && sentences_fit xs) (paragraphs_fit qs) (and_from (nat_lt i words) (sentences_fit xs) (lt-ltb i words begins) fit)
-              (paragraphs-read end.at end.number qs j others)
+        chapters-read : (i : ℕ) (ps : List Paragraph) (j : ℕ) → i ≤ words → Chapters v IsSentence i ps j → paragraphs_fit ps ≡ true
+        chapters-read i ps j few (Chapters.headed w) = paragraphs-read i 0 ps j w
+        chapters-read i ps j few (Chapters.unnamed {xs = xs} {end = end} {ps = qs} sentences some others) =
+            let begins = unnamed-begins i 0 xs end sentences some in
+            let (_, _, fit) = sentences-read i 0 xs end few sentences in
+            and_from (nat_lt i words && sentences_fit xs) (paragraphs_fit qs) (and_from (nat_lt i words) (sentences_fit xs) (lt-ltb i words begins) fit)
+            (paragraphs-read end.at end.number qs j others)
 
-      procedure-read : (i : ℕ) (ps : List Paragraph) → Procedure v IsSentence i ps → (i ≤ words) × (paragraphs_fit ps ≡ true)
-      procedure-read i ps w =
-          let ended = header-within _ w.header.middle w.start w.header.second in
-          let grows = headers-less words v _ _ i w.start w.header in
-          (omega (arith, grows, ended), chapters-read w.start ps w.end ended w.chapters)
+        procedure-read : (i : ℕ) (ps : List Paragraph) → Procedure v IsSentence i ps → (i ≤ words) × (paragraphs_fit ps ≡ true)
+        procedure-read i ps w =
+            let ended = header-within _ w.header.middle w.start w.header.second in
+            let grows = headers-less words v _ _ i w.start w.header in
+            (omega (arith, grows, ended), chapters-read w.start ps w.end ended w.chapters)
 
 as-many : (ws : List Word) (names : List (List ℕ)) → length ws ≡ length (text_with ws names).kinds
 as-many [] names = refl
@@ -198,8 +193,7 @@ as-many (w ∷ ws) names = ap suc (as-many ws names)
 sentence-read : (ws : List Word) (program : ℕ) (names : List (List ℕ)) (i n : ℕ) (x : Sentence) (next : Spot) → SentenceAt ws program names i n x next
     → Taken (length ws) i next.at (sentence_fits (length ws) x) × (next.at ≤ length ws)
 sentence-read ws program names i n x next w =
-    let t = source_with ws names program in
-    (
+    let t = source_with ws names program in (
       sentence-taken (length ws) t 64 (record { at = i; number = n }) next x w,
       omega (arith, w.period.next_is, within t.text s.Period w.period_spot.at w.period.kind_is (λ same. cc), as-many ws names),
     )
@@ -216,4 +210,4 @@ program-fits ws program file p w =
     let (files, storage) = and_parts (files_fit words v g.data_division.files) (entries_fit words v g.data_division.storage) (sections.fit ended.0) in
     ap program_fits g.is
     ∙ and_from (selects_fit words v g.selects) _ (environment.fit (omega (arith, sections.grows, ended.0)))
-        (and_3 (files_fit words v g.data_division.files) (entries_fit words v g.data_division.storage) _ files storage ended.1)
+    (and_3 (files_fit words v g.data_division.files) (entries_fit words v g.data_division.storage) _ files storage ended.1)

@@ -1,5 +1,5 @@
 -- What holds of the statements inside which no statement stands.
-use Rattle.std.proofs.Common.{ℕ, zero, suc, ◌+◌, ◌<◌, ◌≤◌, nat_lt, nat_le, ◌≡◌, refl, sym, ap, ◌∙◌, Bool, true, false, ◌&&◌, List, [], ◌∷◌, ◌++◌, map, Option, Some, None, arith}
+use Rattle.std.proofs.Common.{ℕ, ◌+◌, ◌<◌, ◌≤◌, ◌≡◌, refl, ap, ◌∙◌, Bool, true, List, [], ◌∷◌, map, Option, Some, arith}
 use Rattle.std.proofs.lemmas.Bool.{and_from, and_parts}
 use Rattle.cobol_syntax.specs.declared.place.Place.{Place}
 use Rattle.cobol_syntax.specs.declared.expr.Operand.{Operand}
@@ -13,7 +13,6 @@ use Rattle.cobol_syntax.specs.declared.statement.NamePair.{NamePair}
 use Rattle.cobol_syntax.specs.declared.statement.Register.{Register}
 use Rattle.cobol_syntax.specs.declared.statement.Vary.{Vary}
 use Rattle.cond_reader.specs.declared.symbol.Symbol.{Symbol}
-use Rattle.cond_reader.specs.Reads.{with_last}
 use Rattle.cond_reader.specs.Grammar.{Name}
 use Rattle.proc_reader.specs.declared.files.Opened.{Opened}
 use Rattle.proc_reader.specs.declared.keyword.Keyword.{Keyword}
@@ -22,7 +21,7 @@ use Rattle.proc_reader.specs.Files as files
 use Rattle.proc_reader.specs.Grammar.{Many, stop, more, Word, MaybeWord, MaybeMark, PlaceAt, OperandAt, ExprAt, ConditionAt, Move, Show, RegisterAt, Accept, GoTo, FileAt, Open, Close, MaybeOperand, MaybePlace, LinesAt, AdvanceAt, Write, RangeAt, SideAt, TestAt, VaryAt, TimesAt, ControlAt, Perform, Single, Simple}
 use Rattle.proc_reader.specs.Grammar as grammar
 use Rattle.tree_words.specs.Fits.{all_true, if_any, place_fits, operand_fits, expr_fits, condition_fits, vary_fits, control_fits, form_fits}
-use Rattle.tree_words.proofs.Parts.{Taken, Passed, and_3, all-last, all-one, all-joined}
+use Rattle.tree_words.proofs.Parts.{Taken, Passed, and_3, all-last, all-one}
 use Rattle.tree_words.proofs.Exprs.{name-taken, place-taken, operand-taken, expr-taken}
 use Rattle.tree_words.proofs.Conds.{condition-taken}
 use Rattle.tree_words.proofs.StatementFolds as folds
@@ -31,15 +30,15 @@ use Rattle.tree_words.proofs.StatementFolds as folds
 module _ (words : ℕ) {A B : Type 0} {Item : A → ℕ → ℕ → B → Type 0} {add : A → B → A} (fits_all : A → Bool) (fits_one : B → Bool)
     (item : (a : A) (i j : ℕ) (b : B) → Item a i j b → Taken words i j (fits_one b))
     (added : (a : A) (b : B) → fits_all a ≡ true → fits_one b ≡ true → fits_all (add a b) ≡ true)
-    where
-  pub many-grows : {a c : A} {i j : ℕ} → Many Item add a i j c → i ≤ j
-  many-grows (stop none) = omega arith
-  many-grows (more {a = a} {i = i} {m = m} {b = b} one others) = omega (arith, (item a i m b one).grows, many-grows others)
+  where
+    pub many-grows : {a c : A} {i j : ℕ} → Many Item add a i j c → i ≤ j
+    many-grows (stop none) = omega arith
+    many-grows (more {a = a} {i = i} {m = m} {b = b} one others) = omega (arith, (item a i m b one).grows, many-grows others)
 
-  pub many-fits : {a c : A} {i j : ℕ} → Many Item add a i j c → j ≤ words → fits_all a ≡ true → fits_all c ≡ true
-  many-fits (stop none) within fit = fit
-  many-fits (more {a = a} {i = i} {m = m} {b = b} one others) within fit =
-      many-fits others within (added a b fit ((item a i m b one).fit (omega (arith, many-grows others, within))))
+    pub many-fits : {a c : A} {i j : ℕ} → Many Item add a i j c → j ≤ words → fits_all a ≡ true → fits_all c ≡ true
+    many-fits (stop none) within fit = fit
+    many-fits (more {a = a} {i = i} {m = m} {b = b} one others) within fit =
+        many-fits others within (added a b fit ((item a i m b one).fit (omega (arith, many-grows others, within))))
 
 abbrev any : {A : Type 0} → A → Bool
 any x = true
@@ -74,8 +73,8 @@ module _ (words : ℕ) (t : Source) where
   moves-fit from (p ∷ ps) sender receivers =
       let (first, others) = and_parts (place_fits words p) (all_true (map (place_fits words) ps)) receivers in
       and_from (form_fits words (form.Move from p)) (forms_fit (map (form.Move from) ps))
-          (folds.fits-Move words from p ∙ and_from (operand_fits words from) (place_fits words p) sender first)
-          (moves-fit from ps sender others)
+      (folds.fits-Move words from p ∙ and_from (operand_fits words from) (place_fits words p) sender first)
+      (moves-fit from ps sender others)
 
   move-taken : (level i j : ℕ) (fs : List Form) → Move t level i j fs → Taken words i j (forms_fit fs)
   move-taken level i j fs w =
@@ -89,8 +88,8 @@ module _ (words : ℕ) (t : Source) where
         fit = λ within.
             ap forms_fit w.is
             ∙ moves-fit w.from w.places (from.fit (omega (arith, w.to_word.next_is, first.grows, later, within)))
-                (many-fits words fits_places (place_fits words) item (all-last (place_fits words)) w.more_read within
-                    (all-one (place_fits words) w.first (first.fit (omega (arith, later, within)))));
+            (many-fits words fits_places (place_fits words) item (all-last (place_fits words)) w.more_read within
+            (all-one (place_fits words) w.first (first.fit (omega (arith, later, within)))));
       }
 
   show-taken : (level i j : ℕ) (f : Form) → Show t level i j f → Taken words i j (form_fits words f)
@@ -105,7 +104,7 @@ module _ (words : ℕ) (t : Source) where
             ap (form_fits words) w.is
             ∙ (folds.fits-Show words w.operands
             ∙ many-fits words fits_all (operand_fits words) item (all-last (operand_fits words)) w.more_read within
-                (all-one (operand_fits words) w.first (first.fit (omega (arith, later, within)))));
+            (all-one (operand_fits words) w.first (first.fit (omega (arith, later, within)))));
       }
 
   register-grows : (i j : ℕ) (r : Register) → RegisterAt t i j r → i < j
@@ -211,7 +210,7 @@ module _ (words : ℕ) (t : Source) where
             ap (form_fits words) w.is
             ∙ (folds.fits-Write words w.name w.from w.advance
             ∙ and_from (if_any (operand_fits words) w.from) (if_any (operand_fits words) w.advance)
-                (from.fit (omega (arith, advance.grows, later, within))) (advance.fit (omega (arith, later, within))));
+            (from.fit (omega (arith, advance.grows, later, within))) (advance.fit (omega (arith, later, within))));
       }
 
   -- ---- PERFORM
@@ -239,9 +238,9 @@ module _ (words : ℕ) (t : Source) where
         grows = omega (arith, word.next_is, first.grows, from_word.next_is, second.grows, by_word.next_is, third.grows);
         fit = λ within.
             and_3 (place_fits words item) (operand_fits words from) (operand_fits words by)
-                (first.fit (omega (arith, from_word.next_is, second.grows, by_word.next_is, third.grows, within)))
-                (second.fit (omega (arith, by_word.next_is, third.grows, within)))
-                (third.fit within);
+            (first.fit (omega (arith, from_word.next_is, second.grows, by_word.next_is, third.grows, within)))
+            (second.fit (omega (arith, by_word.next_is, third.grows, within)))
+            (third.fit within);
       }
 
   times-taken : (level i j : ℕ) (x : Operand) → TimesAt t level i j x → Taken words i j (operand_fits words x)

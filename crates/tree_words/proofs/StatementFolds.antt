@@ -1,5 +1,5 @@
 -- What it is that a statement fits, by its variants.
-use Rattle.std.proofs.Common.{ℕ, ◌≡◌, refl, sym, ap, ◌∙◌, Bool, true, false, ◌&&◌, List, [], ◌∷◌, map, Option, Some, None}
+use Rattle.std.proofs.Common.{ℕ, ◌≡◌, ap, ◌∙◌, Bool, true, ◌&&◌, List, map, Option, Some, None}
 use Rattle.cobol_syntax.specs.declared.place.Place.{Place}
 use Rattle.cobol_syntax.specs.declared.expr.Operand.{Operand}
 use Rattle.cobol_syntax.specs.declared.expr.Expr.{Expr}
@@ -9,7 +9,7 @@ use Rattle.cobol_syntax.specs.declared.statement.NamePair.{NamePair}
 use Rattle.cobol_syntax.specs.declared.statement.Control.{Control}
 use Rattle.cobol_syntax.specs.declared.statement.Mode.{Mode}
 use Rattle.cobol_syntax.specs.declared.statement.Register.{Register}
-use Rattle.cobol_syntax.specs.declared.statement.Statement.{Statement, out-Statement, roll-Statement, fold_out-Statement}
+use Rattle.cobol_syntax.specs.declared.statement.Statement.{Statement, roll-Statement, fold_out-Statement}
 use Rattle.cobol_syntax.specs.declared.statement.Branch.{Branch, map-Branch, roll-Branch, fold-roll-Branch}
 use Rattle.cobol_syntax.specs.declared.statement.Form.{Form, Form-F, map-Form, out-Form, fold_out-Form}
 use Rattle.cobol_syntax.specs.declared.statement.Form.TheVariants as f

@@ -1,6 +1,6 @@
 -- Whether a tree fits so many words: each position of a word is below their number, each position after a last word at
 -- most it, and each number literal has the value and the digits of a number that a word can spell.
-use Rattle.std.specs.Prelude.{ℕ, ◌^◌, suc, ℤ, pos, negsuc, nat_lt, nat_le, Bool, true, false, ◌&&◌, List, [], ◌∷◌, length, map, Option, Some, None}
+use Rattle.std.specs.Prelude.{ℕ, ◌^◌, suc, ℤ, pos, negsuc, nat_lt, nat_le, Bool, true, ◌&&◌, List, [], ◌∷◌, length, map, Option, Some, None}
 use Rattle.decimal_bytes.specs.declared.form.Scaled.{Scaled}
 use Rattle.cobol_syntax.specs.declared.place.Sub.{Sub}
 use Rattle.cobol_syntax.specs.declared.place.Sub.TheVariants as sub

@@ -13,5 +13,4 @@ ghost use Rattle.tree_words.specs.Fits.{program_fits};
 /// The law, which no call needs: a program that words read as fits its words.
 pub fn read_programs_fit()
     ensures { (words : List Word) (program : ℕ) (file : FileId) (p : Program) → IsRead words program file p → program_fits p ≡ true }
-{
-}
+{}
