@@ -1,5 +1,6 @@
 -- What is read of texts is sound.
 use Rattle.std.proofs.Common.{◌≡◌, ℕ, ◌+◌, ◌≤◌, Bool, true, false, cond, nat_lt, List, [], ◌∷◌, Option, refl, ap, arith, ltb-false}
+use Rattle.std.specs.List.{AllByRecursion}
 use Rattle.std.proofs.lemmas.Bool.{true≢false}
 use Rattle.cobol_syntax.specs.declared.program.Program.{Program}
 use Rattle.copy_origins.specs.declared.books.Book.{Book}
@@ -14,7 +15,8 @@ use Rattle.program_texts.specs.declared.line.Source.{Source}
 use Rattle.program_texts.specs.declared.line.TextWords.{TextWords}
 use Rattle.file_uses.specs.Names.{name_of}
 use Rattle.gathered.specs.Portfolios.{IsPortfolioOf}
-use Rattle.gathered.specs.Sound.{AreLaid, bytes_of_all, AreOwn, AreUsed, IsSound}
+use Rattle.tree_words.proofs.Programs.{program-fits}
+use Rattle.gathered.specs.Sound.{AreLaid, bytes_of_all, AreOwn, AreUsed, FitsItsWords, IsSound}
 
 abbrev is_cons : List Refused → Bool
 is_cons [] = false
@@ -32,6 +34,15 @@ module _ (p : Program) (l : Layout) where
   within (a ∷ rest) before few e = within_step a rest before (nat_lt 4000000 (before + a.length)) refl (λ few e. within rest (before + a.length) few e) e
 
 module _ (books : List Book) where
+  trees : (before : Before) (ss : List Source) (ps : List Program) (ls : List Layout) → AreMembers books before ss ps ls → AllByRecursion FitsItsWords ps
+  trees before [] [] [] m = record {}
+  trees before [] [] (l ∷ ls) m = absurd m
+  trees before [] (p ∷ ps) ls m = absurd m
+  trees before (s ∷ ss) [] ls m = absurd m
+  trees before (s ∷ ss) (p ∷ ps) [] m = absurd m
+  trees before (s ∷ ss) (p ∷ ps) (l ∷ ls) m =
+      let (expanded, _, read) = m.0.tree in (program-fits expanded before.programs s.file p read.0, trees (after before p l) ss ps ls m.1)
+
   laid : (before : Before) (ss : List Source) (ps : List Program) (ls : List Layout) → AreMembers books before ss ps ls → AreLaid before.area ps ls
   laid before [] [] [] m = record {}
   laid before [] [] (l ∷ ls) m = absurd m
@@ -67,6 +78,7 @@ module _ (books : List Book) where
 
 pub sound : (words : TextWords) (files : Option (List Named)) (p : Portfolio) → IsPortfolioOf words files p → IsSound p
 sound words files p h = record {
+  trees = trees words.books.list nothing words.sources p.programs p.layouts h.members;
   laid = laid words.books.list nothing words.sources p.programs p.layouts h.members;
   most = omega (arith, most words.books.list nothing words.sources p.programs p.layouts (omega arith) h.members);
   own = own words.books.list nothing words.sources p.programs p.layouts h.members;

@@ -1,5 +1,6 @@
 -- Sound portfolios.
-use Rattle.std.specs.Prelude.{◌≡◌, ℕ, ◌+◌, ◌≤◌, List, [], ◌∷◌, length}
+use Rattle.std.specs.Prelude.{◌≡◌, ℕ, ◌+◌, ◌≤◌, true, List, [], ◌∷◌, length}
+use Rattle.std.specs.List.{AllByRecursion}
 use Rattle.y2k_base.specs.declared.place.AreaId.{AreaId}
 use Rattle.cobol_syntax.specs.declared.program.Program.{Program}
 use Rattle.data_layout.specs.declared.item.Layout.{Layout}
@@ -10,6 +11,7 @@ use Rattle.program_names.specs.Repeats.{name_faults}
 use Rattle.program_texts.specs.Programs.{IsLaid}
 use Rattle.program_uses.specs.Uses.{use_faults}
 use Rattle.file_uses.specs.Files.{files_by, unlike_by}
+use Rattle.tree_words.specs.Fits.{program_fits}
 
 -- each layout is that of its program, which breaks no rule of layouts; areas are numbered over all programs
 abbrev pub AreLaid : AreaId → List Program → List Layout → Type 0
@@ -34,7 +36,12 @@ AreUsed [] ls = Unit {0}
 AreUsed (p ∷ ps) [] = ⊥
 AreUsed (p ∷ ps) (l ∷ ls) = (use_faults l p ≡ []) × AreUsed ps ls
 
+-- the positions in a tree are those of its program's words, and its number literals are numbers that a word can spell
+abbrev pub FitsItsWords : Program → Type 0
+FitsItsWords p = program_fits p ≡ true
+
 pub record IsSound (p : Portfolio) : Type 0 where
+  pub trees : AllByRecursion FitsItsWords p.programs
   pub laid : AreLaid (record { 0 = 0 }) p.programs p.layouts
   pub most : bytes_of_all p.layouts ≤ 4000000
   pub own : AreOwn no_names p.programs

@@ -570,3 +570,119 @@ fn are_places(layout: &Layout, places: &[(u32, u32, u32)]) -> bool {
     }
     true
 }
+
+/// A copybook of so many items, N0 and so on.
+fn book_of_items(alloc: Global, count: u32) -> Result<Text, Fail> {
+    let mut lines = List::new(alloc);
+    for k in 0..count {
+        let entry = format!(in alloc; "       01 N{k} PIC X.\n")?;
+        lines.append(entry.as_str().as_bytes())?;
+    }
+    Ok(Text {
+        name: bytes_of(alloc, b"B")?,
+        key: bytes_of(alloc, b"B")?,
+        role: TextRole::Book,
+        bytes: lines,
+    })
+}
+
+/// A program that copies so many items in under other names, M0 and so on, and uses the first and the last.
+fn copies_items(alloc: Global, count: u32) -> Result<Text, Fail> {
+    let mut lines = List::new(alloc);
+    lines.append(b"       ID DIVISION.\n       PROGRAM-ID. P.\n       DATA DIVISION.\n")?;
+    lines.append(b"       WORKING-STORAGE SECTION.\n           COPY B REPLACING\n")?;
+    for k in 0..count {
+        let pair = format!(in alloc; "           ==N{k}== BY ==M{k}==\n")?;
+        lines.append(pair.as_str().as_bytes())?;
+    }
+    let last = count.saturating_sub(1);
+    let rest = format!(in alloc;
+        "           .\n       PROCEDURE DIVISION.\n       MAIN-PARA.\n           MOVE M0 TO M{last}.\n"
+    )?;
+    lines.append(rest.as_str().as_bytes())?;
+    Ok(Text {
+        name: bytes_of(alloc, b"P")?,
+        key: List::new(alloc),
+        role: TextRole::Program,
+        bytes: lines,
+    })
+}
+
+#[test]
+fn a_copy_statement_may_replace_by_160_pairs(rt: HostRuntime) -> Result<(), Fail> {
+    let alloc = rt.alloc();
+    let texts = two(
+        alloc,
+        book_of_items(alloc, 160)?,
+        copies_items(alloc, 160)?,
+    )?;
+    assert!(rt; has_items(alloc, texts, &[160]));
+    Ok(())
+}
+
+/// A program with so many IF statements inside one another, from line 7 on.
+fn with_nested_ifs(alloc: Global, count: u32) -> Result<Text, Fail> {
+    let mut lines = List::new(alloc);
+    lines.append(b"       ID DIVISION.\n       PROGRAM-ID. P.\n       DATA DIVISION.\n")?;
+    lines.append(b"       WORKING-STORAGE SECTION.\n       77 A PIC 9.\n")?;
+    lines.append(b"       PROCEDURE DIVISION.\n")?;
+    for _turn in 0..count {
+        lines.append(b"           IF A = 1\n")?;
+    }
+    lines.append(b"           CONTINUE.\n")?;
+    Ok(Text {
+        name: bytes_of(alloc, b"P")?,
+        key: List::new(alloc),
+        role: TextRole::Program,
+        bytes: lines,
+    })
+}
+
+#[test]
+fn if_statements_are_nested_64_deep_at_most(rt: HostRuntime) -> Result<(), Fail> {
+    let alloc = rt.alloc();
+    let texts = one(alloc, with_nested_ifs(alloc, 64)?)?;
+    assert!(rt; has_items(alloc, texts, &[1]));
+    let texts = one(alloc, with_nested_ifs(alloc, 65)?)?;
+    assert!(rt; is_refused(alloc, texts, RefusedKind::NestDeep, 0, 7, 12));
+    Ok(())
+}
+
+/// Adds programs P0 and so on to a manifest and a shelf.
+fn add_programs(
+    alloc: Global,
+    manifest: &mut Manifest,
+    shelf: &mut MemoryShelf,
+    count: u32,
+) -> Result<(), Fail> {
+    for k in 0..count {
+        let id = format!(in alloc; "P{k}")?;
+        shelf.put(id.as_str(), program_named(alloc, id.as_str(), "")?.items())?;
+        manifest
+            .programs
+            .push(bytes_of(alloc, id.as_str().as_bytes())?)?;
+    }
+    Ok(())
+}
+
+fn has_programs(
+    alloc: Global,
+    manifest: &Manifest,
+    shelf: &mut MemoryShelf,
+    count: usize,
+) -> bool {
+    match gather(alloc, manifest, "", 0, shelf) {
+        Ok(gathered) => gathered.portfolio.layouts.len() == count,
+        Err(_) => false,
+    }
+}
+
+#[test]
+fn two_hundred_programs_are_gathered(rt: HostRuntime) -> Result<(), Fail> {
+    let alloc = rt.alloc();
+    let mut shelf = MemoryShelf::new(alloc)?;
+    let mut manifest = manifest_of(alloc, &[])?;
+    add_programs(alloc, &mut manifest, &mut shelf, 200)?;
+    assert!(rt; has_programs(alloc, &manifest, &mut shelf, 200));
+    Ok(())
+}

@@ -1,0 +1,11 @@
+pub mod Numerals
+pub mod Parts
+pub mod Folds
+pub mod Exprs
+pub mod Conds
+pub mod StatementFolds
+pub mod Simple
+pub mod Arithmetic
+pub mod Sentences
+pub mod Entries
+pub mod Programs
