@@ -4,7 +4,7 @@ pub mod Local
 pub mod Copies
 pub mod Passes
 pub mod Least
-pub mod Index
+pub mod FactSets
 pub mod Marks
 pub mod Whole
 pub mod Blocks

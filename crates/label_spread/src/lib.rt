@@ -4,6 +4,7 @@
 mod bytes;
 mod closure;
 mod forms;
+mod fact_set;
 mod known;
 mod packed;
 mod roles;
