@@ -5,6 +5,7 @@ pub mod Copies
 pub mod Passes
 pub mod Least
 pub mod FactSets
+pub mod Only
 pub mod Marks
 pub mod Whole
 pub mod Blocks
