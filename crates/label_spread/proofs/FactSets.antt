@@ -69,8 +69,8 @@ module _ (old new : Fact → Option (List Bool)) (fact : Fact) (bytes more : Lis
     λ h. elim h [
       | inl before ↦ subst (λ (o : Option (List Bool)). Bears o (byte_of other)) (sym is) before
       | inr it ↦ absurd (
-        let ties : is_eq (fact_cmp (block_of fact) (block_of other)) ≡ true = ap is_eq (ap (λ (f : Fact). fact_cmp (block_of fact) (block_of f)) it ∙ tied_itself fact_total (block_of fact)) in
-        let f : false ≡ true = sym apart ∙ ties in cc)
+          let ties : is_eq (fact_cmp (block_of fact) (block_of other)) ≡ true = ap is_eq (ap (λ (f : Fact). fact_cmp (block_of fact) (block_of f)) it ∙ tied_itself fact_total (block_of fact)) in
+          let f : false ≡ true = sym apart ∙ ties in cc)
     ],
   )
 
@@ -88,10 +88,10 @@ pub inserted : (old new : Fact → Option (List Bool)) (fact block : Fact) (byte
     → (other : Fact) → Bears (new (block_of other)) (byte_of other) ↔ (Bears (old (block_of other)) (byte_of other) ⊎ (other ≡ fact))
 inserted old new fact block byte bytes more b k known marked put other =
     marked_in old new fact bytes more
-        (subst (λ (x : Fact). (k : ℕ) → IsTrue (get_or bytes k false) ↔ Bears (old x) k) b known)
-        (subst (λ (x : ℕ). (k : ℕ) → IsTrue (get_or more k false) ↔ (IsTrue (get_or bytes k false) ⊎ (k ≡ x))) k marked)
-        (subst (λ (x : Fact). (q : Fact) → new q ≡ cond (is_eq (fact_cmp x q)) (Some more) (old q)) b put)
-        other
+    (subst (λ (x : Fact). (k : ℕ) → IsTrue (get_or bytes k false) ↔ Bears (old x) k) b known)
+    (subst (λ (x : ℕ). (k : ℕ) → IsTrue (get_or more k false) ↔ (IsTrue (get_or bytes k false) ⊎ (k ≡ x))) k marked)
+    (subst (λ (x : Fact). (q : Fact) → new q ≡ cond (is_eq (fact_cmp x q)) (Some more) (old q)) b put)
+    other
 
 -- a set of just these facts, and one more
 pub just_more : (old new : Fact → Type 0) (facts more : List Fact) (fact : Fact) → ((f : Fact) → old f ↔ Contains facts f) → ((f : Fact) → new f ↔ (old f ⊎ (f ≡ fact))) → more ≡ facts ++ fact ∷ [] → (f : Fact) → new f ↔ Contains more f

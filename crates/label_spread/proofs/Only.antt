@@ -1,5 +1,5 @@
 -- The stretches of facts are the only ones.
-use Rattle.std.proofs.Common.{◌≡◌, ◌⊎◌, ◌↔◌, inl, inr, arith, ℕ, ◌+◌, ◌<◌, ◌≤◌, List, [], ◌∷◌, ◌++◌, length, get_or, refl, sym, ap, ◌∙◌, subst, Contains}
+use Rattle.std.proofs.Common.{◌≡◌, ◌⊎◌, ◌↔◌, inl, inr, arith, ◌+◌, ◌<◌, ◌≤◌, List, [], ◌∷◌, refl, sym, ap, ◌∙◌, subst, Contains}
 use Rattle.std.specs.declared.cmp.Ordering.{Ordering}
 use Rattle.std.specs.declared.cmp.Ordering.TheVariants.{Less, Equal}
 use Rattle.std.specs.List.Sorted.{IsStrictlySortedBy}
@@ -15,7 +15,7 @@ use Rattle.year_labels.specs.declared.label.Label.{Label}
 use Rattle.year_labels.specs.declared.stretch.Stretch.{Stretch}
 use Rattle.year_labels.specs.Facts.{fact_of}
 use Rattle.year_labels.specs.Order.{label_cmp}
-use Rattle.year_labels.specs.Stretches.{IsByteOf, Says, OneSays, IsFull, IsFollowedBy, AreInRow, AreStretchesOf, EndsBefore}
+use Rattle.year_labels.specs.Stretches.{IsByteOf, Says, OneSays, IsFull, IsFollowedBy, AreInRow, EndsBefore}
 use Rattle.year_labels.proofs.Total.{fact_total}
 use Rattle.label_spread.specs.Only.{HaveOneList}
 
@@ -48,9 +48,9 @@ module _ {K : Type 0} (cmp : K → K → Ordering) (apart : (x y : K) → cmp x 
   in_tail : (x : K) (xs : List K) (y : K) (ys : List K) → IsStrictlySortedBy cmp (x ∷ xs) → x ≡ y → ((z : K) → Contains (x ∷ xs) z → Contains (y ∷ ys) z) → (z : K) → Contains xs z → Contains ys z
   in_tail x xs y ys sx is there z at = elim (head_or_rest y ys z (there z (at_rest x xs z at))) [
     | inl first ↦ absurd (
-      let less : cmp x z ≡ Less = less_than x xs z sx at in
-      let itself : cmp z z ≡ Less = subst (λ (w : K). cmp w z ≡ Less) (is ∙ first) less in
-      apart z z itself itself)
+        let less : cmp x z ≡ Less = less_than x xs z sx at in
+        let itself : cmp z z ≡ Less = subst (λ (w : K). cmp w z ≡ Less) (is ∙ first) less in
+        apart z z itself itself)
     | inr rest ↦ rest
   ]
 
@@ -61,7 +61,7 @@ module _ {K : Type 0} (cmp : K → K → Ordering) (apart : (x y : K) → cmp x 
   sorted_same (x ∷ xs) (y ∷ ys) sx sy same =
       let is : x ≡ y = same_head x xs y ys sx sy ((same x).0 (at_head x xs)) ((same y).1 (at_head y ys)) in
       let rest : xs ≡ ys = sorted_same xs ys (sorted_tail cmp x xs sx) (sorted_tail cmp y ys sy)
-          (λ z. (in_tail x xs y ys sx is (λ w. (same w).0) z, in_tail y ys x xs sy (sym is) (λ w. (same w).1) z)) in
+      (λ z. (in_tail x xs y ys sx is (λ w. (same w).0) z, in_tail y ys x xs sy (sym is) (λ w. (same w).1) z)) in
       λ i. is i ∷ rest i
 
 abbrev origin : BytePlace
@@ -216,25 +216,25 @@ rest_says s ss t ts is row f there h =
     let k : OneSays (t ∷ ts) f = there (h.0, at_rest s ss h.0 h.1, h.2) in
     elim (head_or_rest t ts k.0 k.1) [
       | inl first ↦ absurd (
-        let byte : IsByteOf s f.place = subst (λ (x : Stretch). IsByteOf x f.place) (sym (is ∙ first)) k.2.0 in
-        bytes_apart s h.0 f.place (later s ss row h.0 h.1) byte h.2.0)
+          let byte : IsByteOf s f.place = subst (λ (x : Stretch). IsByteOf x f.place) (sym (is ∙ first)) k.2.0 in
+          bytes_apart s h.0 f.place (later s ss row h.0 h.1) byte h.2.0)
       | inr rest ↦ (k.0, rest, k.2)
     ]
 
 one_list : (ss ts : List Stretch) → AreFull ss → AreFull ts → AreInRow ss → AreInRow ts → SaySame ss ts → ss ≡ ts
 one_list [] [] full_s full_t rs rt same = refl
 one_list [] (t ∷ ts) full_s full_t rs rt same = absurd (
-  let ft : IsFull t = full_t t (at_head t ts) in
-  let h : OneSays [] (fact_of (start t) ft.labelled.0) = (same (fact_of (start t) ft.labelled.0)).1 (says_head t ts (fact_of (start t) ft.labelled.0) (starts t ft, ft.labelled.1)) in
-  omega (arith, h.1.1))
+    let ft : IsFull t = full_t t (at_head t ts) in
+    let h : OneSays [] (fact_of (start t) ft.labelled.0) = (same (fact_of (start t) ft.labelled.0)).1 (says_head t ts (fact_of (start t) ft.labelled.0) (starts t ft, ft.labelled.1)) in
+    omega (arith, h.1.1))
 one_list (s ∷ ss) [] full_s full_t rs rt same = absurd (
-  let fs : IsFull s = full_s s (at_head s ss) in
-  let h : OneSays [] (fact_of (start s) fs.labelled.0) = (same (fact_of (start s) fs.labelled.0)).0 (says_head s ss (fact_of (start s) fs.labelled.0) (starts s fs, fs.labelled.1)) in
-  omega (arith, h.1.1))
+    let fs : IsFull s = full_s s (at_head s ss) in
+    let h : OneSays [] (fact_of (start s) fs.labelled.0) = (same (fact_of (start s) fs.labelled.0)).0 (says_head s ss (fact_of (start s) fs.labelled.0) (starts s fs, fs.labelled.1)) in
+    omega (arith, h.1.1))
 one_list (s ∷ ss) (t ∷ ts) full_s full_t rs rt same =
     let is : s ≡ t = same_first s ss t ts full_s full_t rs rt same in
     let rest : ss ≡ ts = one_list ss ts (λ u at. full_s u (at_rest s ss u at)) (λ u at. full_t u (at_rest t ts u at)) (row_tail s ss rs) (row_tail t ts rt)
-        (λ f. (rest_says s ss t ts is rs f (same f).0, rest_says t ts s ss (sym is) rt f (same f).1)) in
+    (λ f. (rest_says s ss t ts is rs f (same f).0, rest_says t ts s ss (sym is) rt f (same f).1)) in
     λ i. is i ∷ rest i
 
 pub only_list : (facts : List Fact) → HaveOneList facts

@@ -3,8 +3,8 @@
 
 mod bytes;
 mod closure;
-mod forms;
 mod fact_set;
+mod forms;
 mod known;
 mod packed;
 mod roles;
@@ -16,3 +16,4 @@ mod tests;
 pub use bytes::{fact_at, holds_power, index_in};
 pub use closure::{derive, spread};
 pub use roles::{label_for, power_limit};
+pub use slots::{Slot, index_rules, slots_at};
