@@ -7,7 +7,7 @@ mod follows;
 mod gives;
 mod named;
 mod order;
-mod rule_index;
+mod spans;
 #[cfg(test)]
 mod tests;
 

@@ -3,9 +3,9 @@ ghost use Rattle.year_labels.specs.Forms.{IsFit};
 ghost use Rattle.conflict_chain.specs.Chains.{IsChain};
 
 use crate::follows::follows;
-use crate::rule_index::{RuleIndex, spans_of};
+use crate::spans::spans_of;
 use crate::{Chain, ChainStep, Why, check_chain};
-use label_spread::{derive, index_in};
+use label_spread::{Slot, derive, index_in, index_rules, slots_at};
 use std::alloc::Global;
 use std::collections::{BTreeMap, BTreeSet};
 use y2k_base::{BytePlace, List, Memory, Span};
@@ -25,7 +25,7 @@ pub(crate) struct Order {
     facts: Vec<ChainStep>,
     numbers: BTreeMap<Fact, u32>,
     seeded: BTreeMap<Fact, u32>,
-    index: RuleIndex,
+    slots: BTreeSet<Slot>,
     reasons: BTreeMap<u32, Reason>,
 }
 
@@ -38,7 +38,7 @@ impl Order {
             facts: Vec::new(alloc),
             numbers: BTreeMap::new(alloc),
             seeded: seeded_by(alloc, seeds)?,
-            index: RuleIndex::new(alloc, rules)?,
+            slots: index_rules(alloc, rules)?,
             reasons: BTreeMap::new(alloc),
         };
         let found = found.items();
@@ -232,10 +232,10 @@ impl Order {
             let from = Vec::new(alloc);
             return Ok(Reason { why, from });
         }
-        let indices = self.index.rules_at(alloc, fact.place)?;
+        let slots = slots_at(alloc, &self.slots, fact.place)?;
         let mut best = None;
-        for i in 0..indices.len() {
-            match self.reason_by(alloc, rules, indices[i], number, fact)? {
+        for i in 0..slots.len() {
+            match self.reason_by(alloc, rules, slots[i].rule, number, fact)? {
                 Some(reason) => best = Some(earlier(best, reason)),
                 None => {}
             }
@@ -251,18 +251,18 @@ impl Order {
         &self,
         alloc: Global,
         rules: &[RuleInst],
-        index: u32,
+        index: usize,
         number: u32,
         fact: Fact,
     ) -> Result<Option<Reason>, Memory>
         requires { All (λ r. IsFit r.form) rules.now }
     {
-        match rules.get(index as usize) {
+        match rules.get(index) {
             Some(rule) => {
                 let grounds = self.grounds(alloc, &rule.form, number, fact.place)?;
                 if follows(&rule.form, &self.facts, &grounds, fact) {
                     let from = self.least_grounds(alloc, &rule.form, grounds, fact)?;
-                    let why = Why::Rule(index);
+                    let why = Why::Rule(u32::try_from(index).map_err(|_| Memory)?);
                     Ok(Some(Reason { why, from }))
                 } else {
                     Ok(None)

@@ -4,7 +4,8 @@ pub mod Local
 pub mod Copies
 pub mod Passes
 pub mod Least
-pub mod Index
+pub mod FactSets
+pub mod Only
 pub mod Marks
 pub mod Whole
 pub mod Blocks

@@ -16,7 +16,7 @@ use Rattle.year_labels.specs.Forms.{IsFit, IsCopied, Follows}
 use Rattle.label_spread.specs.declared.slots.Slot.{Slot}
 use Rattle.year_labels.specs.Derivation.{FollowsByOne}
 use Rattle.label_spread.specs.Steps.{Extends, Reacts, ReactsBy, IsPartOf, IsInSpan, IsInView, FollowsAlike, Touches}
-use Rattle.label_spread.specs.Slots.{slot_of, LooksAt, IsIndexOf}
+use Rattle.label_spread.specs.Slots.{slot_of, byte_at, LooksAt, IsIndexOf}
 use Rattle.label_spread.proofs.Growth.{Extends-refl, Extends-trans, Extends-weaker, Extends-contains}
 use Rattle.label_spread.proofs.Local.{split, from_alike, from_whole, FollowsWhole-apart}
 
@@ -50,7 +50,7 @@ in_view_or_not (views.Packed span digits) place = in_span_or_not span place
 in_view_or_not views.Plain place = inr (λ h. h)
 
 looks_or_not : (form : RuleForm) (place : BytePlace) → LooksAt form place ⊎ (LooksAt form place → ⊥)
-looks_or_not (forms.Give fact) place = inr (λ h. h)
+looks_or_not (forms.Give fact) place = in_span_or_not (byte_at fact.place) place
 looks_or_not (forms.GiveDigit view power role) place = in_view_or_not view place
 looks_or_not (forms.Alike a b) place = or_not (in_span_or_not a place) (in_span_or_not b place)
 looks_or_not (forms.Digits a b) place = or_not (in_view_or_not a place) (in_view_or_not b place)
@@ -59,7 +59,7 @@ looks_or_not (forms.Sum a b c) place = or_not (in_view_or_not a place) (or_not (
 looks_or_not (forms.Difference a b c) place = or_not (in_view_or_not a place) (or_not (in_view_or_not b place) (in_view_or_not c place))
 
 touches_looks : (form : RuleForm) (place : BytePlace) → Touches form place → LooksAt form place
-touches_looks (forms.Give fact) place h = h
+touches_looks (forms.Give fact) place h = absurd h
 touches_looks (forms.GiveDigit view power role) place h = h
 touches_looks (forms.Alike a b) place h = absurd h
 touches_looks (forms.Digits a b) place h = h

@@ -7,6 +7,7 @@ use Rattle.std.specs.Ordering.{nat_cmp, ordering_then}
 use Rattle.std.specs.BTreeMap.Range.{range_contains}
 use Rattle.y2k_base.specs.declared.place.AreaId.{AreaId}
 use Rattle.y2k_base.specs.declared.place.BytePlace.{BytePlace}
+use Rattle.y2k_base.specs.declared.place.Span.{Span}
 use Rattle.year_labels.specs.declared.rule.RuleForm.{RuleForm}
 use Rattle.year_labels.specs.declared.rule.RuleForm.TheVariants as forms
 use Rattle.year_labels.specs.declared.rule.RuleInst.{RuleInst}
@@ -17,7 +18,7 @@ use Rattle.label_spread.specs.Steps.{IsInSpan, Touches}
 abbrev pub slot_cmp : Slot → Slot → Ordering
 slot_cmp s t = ordering_then (nat_cmp s.area.0 t.area.0) (ordering_then (nat_cmp s.block t.block) (nat_cmp s.rule t.rule))
 
--- that the rule of that index looks at the block
+-- that the rule of that index looks at the block or gives a fact of it
 abbrev pub slot_in : AreaId → ℕ → ℕ → Slot
 slot_in area block rule = record { area = area; block = block; rule = rule }
 
@@ -31,9 +32,13 @@ is_of_block area block slot = range_contains slot_cmp (Included (slot_in area bl
 abbrev pub slots_of_block : AreaId → ℕ → List Slot → List Slot
 slots_of_block area block slots = filter (is_of_block area block) slots
 
--- the byte is one of those that the rule looks at
+-- the span of the one byte
+abbrev pub byte_at : BytePlace → Span
+byte_at place = record { area = place.area; offset = place.offset; length = 1 }
+
+-- the byte is one of those whose facts the rule gives or looks at
 abbrev pub LooksAt : RuleForm → BytePlace → Type 0
-LooksAt (forms.Give fact) place = ⊥
+LooksAt (forms.Give fact) place = IsInSpan (byte_at fact.place) place
 LooksAt (forms.GiveDigit view power role) place = Touches (forms.GiveDigit view power role) place
 LooksAt (forms.Alike a b) place = IsInSpan a place ⊎ IsInSpan b place
 LooksAt (forms.Digits a b) place = Touches (forms.Digits a b) place

@@ -1,5 +1,5 @@
 -- How a list of facts grows, and what a function that adds facts sees to.
-use Rattle.std.specs.Prelude.{◌≡◌, ◌⊎◌, ◌↔◌, ℕ, Bool, IsTrue, ◌<◌, ◌≤◌, List, [], ◌∷◌, ◌++◌, length, take, slice_index_or, Contains}
+use Rattle.std.specs.Prelude.{◌≡◌, ◌⊎◌, ℕ, Bool, IsTrue, ◌<◌, ◌≤◌, List, [], ◌∷◌, ◌++◌, length, take, slice_index_or, Contains}
 use Rattle.y2k_base.specs.declared.place.BytePlace.{BytePlace}
 use Rattle.case_tables.specs.declared.row_table.Flags.{Flags}
 use Rattle.case_tables.specs.Rows.{flag}
@@ -19,9 +19,6 @@ use Rattle.year_labels.specs.Roles.{HasRole, Gives}
 use Rattle.year_labels.specs.Operands.{Makes}
 use Rattle.year_labels.specs.Forms.{HasYearDigit, Follows}
 use Rattle.year_labels.specs.Derivation.{FollowsByOne}
-
-abbrev pub HaveSameFacts : List Fact → List Fact → Type 0
-HaveSameFacts xs ys = (f : Fact) → Contains xs f ↔ Contains ys f
 
 -- each fact of the one list is in the other
 abbrev pub IsPartOf : List Fact → List Fact → Type 0

@@ -5,6 +5,7 @@ ghost use Rattle.year_labels.specs.Forms.{IsFit};
 ghost use Rattle.year_labels.specs.Derivation.{AreDerivable, IsLeast, IsDerivation, IsClosed, IsSeedFact, FollowsByOne};
 ghost use Rattle.label_spread.specs.Steps.{Adds, Starts, Reacts, ReactsBy, Closes};
 ghost use Rattle.label_spread.specs.Slots.{IsIndexOf};
+ghost use Rattle.label_spread.specs.Only.{HaveOneList};
 
 use crate::forms::{react, start};
 use crate::known::Known;
@@ -14,12 +15,14 @@ use std::collections::BTreeSet;
 use y2k_base::{List, Memory};
 use year_labels::{Fact, Labelling, RuleInst, Seed};
 
-/// The least labelling that has the facts of the seeds and is closed under the rules.
+/// The least labelling that has the facts of the seeds and is closed under the rules. Its stretches are the only ones
+/// with their properties.
 pub fn spread(alloc: Global, seeds: &[Seed], rules: &[RuleInst]) -> Result<Labelling, Memory>
     requires { All (λ r. IsFit r.form) rules.now }
     ensures derivable { IfOk result (AreDerivable seeds.now rules.now) }
     ensures least { IfOk result (IsLeast seeds.now rules.now) }
     ensures ordered { IfOk result IsAscending }
+    ensures stretched { IfOk result HaveOneList }
 {
     let facts = derive(alloc, seeds, rules)?;
     let labelling = Labelling::new(alloc, facts)?;

@@ -1,10 +1,8 @@
-ghost use Rattle.std.specs.Prelude.{◌≡◌, ◌↔◌, ◌<◌, ◌^◌, ◌-◌, ◌++◌, ◌∷◌, [], IsTrue, OnOk, OnErr, Contains, IfSome, slice_get};
-ghost use Rattle.std.specs.BTreeSet.{insert_key, contains_by};
-ghost use Rattle.year_labels.specs.Order.{fact_cmp};
+ghost use Rattle.std.specs.Prelude.{◌≡◌, ◌↔◌, ◌<◌, ◌^◌, ◌++◌, ◌∷◌, [], IsTrue, OnOk, Contains, IfSome, slice_get};
 ghost use Rattle.label_spread.specs.Steps.{Adds};
 
-use std::alloc::{AllocError, Global};
-use std::collections::BTreeSet;
+use crate::fact_set::FactSet;
+use std::alloc::Global;
 use std::marker::Model;
 use y2k_base::{List, Memory};
 use year_labels::Fact;
@@ -13,7 +11,7 @@ use year_labels::Fact;
 #[derive(Drop)]
 pub(crate) struct Known {
     facts: Vec<Fact>,
-    index: BTreeSet<Fact>,
+    index: FactSet,
 }
 
 impl Model for Known {
@@ -22,11 +20,11 @@ impl Model for Known {
 
     ghost Value = { List Fact };
 
-    ghost use Rattle.label_spread.specs.Steps.{HaveSameFacts};
+    ghost use Rattle.label_spread.specs.FactSets.{HasJust};
 
     ghost view = { λ a. a.facts.items };
 
-    ghost invariant = { λ a. HaveSameFacts a.index.keys a.facts.items };
+    ghost invariant = { λ a. HasJust a.index a.facts.items };
 }
 
 impl Known {
@@ -35,7 +33,7 @@ impl Known {
     {
         Known {
             facts: Vec::new(alloc),
-            index: BTreeSet::new(alloc),
+            index: FactSet::new(alloc),
         }
     }
 
@@ -50,7 +48,7 @@ impl Known {
     pub(crate) fn has(&self, fact: Fact) -> bool
         ensures { IsTrue result ↔ Contains self.now fact }
     {
-        is_indexed(&self.index, fact)
+        self.index.has(fact)
     }
 
     /// Adds the fact, unless it is there.
@@ -69,7 +67,7 @@ impl Known {
         ensures { OnOk result (self.new ≡ self.old ++ fact ∷ []) }
     {
         self.facts.reserve(1)?;
-        insert_key_of(&mut self.index, fact)?;
+        self.index.insert(fact)?;
         self.facts.push_reserved(fact);
         Ok(())
     }
@@ -79,24 +77,4 @@ impl Known {
     {
         List::from_vec(self.facts)
     }
-}
-
-fn is_indexed(index: &BTreeSet<Fact>, fact: Fact) -> bool
-    ensures { IsTrue result ↔ Contains index.now.keys fact }
-{
-    contains_fact(index, fact)
-}
-
-fn contains_fact(index: &BTreeSet<Fact>, fact: Fact) -> bool
-    ensures { result ≡ contains_by (fact_cmp fact) index.now }
-{
-    index.contains(&fact)
-}
-
-fn insert_key_of(index: &mut BTreeSet<Fact>, fact: Fact) -> Result<(), AllocError>
-    ensures ok { OnOk result (index.new.keys ≡ insert_key fact_cmp index.old.keys fact) }
-    ensures err { OnErr result (index.new.keys ≡ index.old.keys) }
-{
-    index.insert(fact)?;
-    Ok(())
 }

@@ -3,6 +3,7 @@
 
 mod bytes;
 mod closure;
+mod fact_set;
 mod forms;
 mod known;
 mod packed;
@@ -15,3 +16,4 @@ mod tests;
 pub use bytes::{fact_at, holds_power, index_in};
 pub use closure::{derive, spread};
 pub use roles::{label_for, power_limit};
+pub use slots::{Slot, index_rules, slots_at};

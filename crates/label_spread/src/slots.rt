@@ -1,7 +1,7 @@
 ghost use Rattle.std.specs.Prelude.{◌≡◌, ◌/◌, ◌<◌, ◌-◌, ◌^◌, ℕ, IfOk, OnOk, All, Contains};
 ghost use Rattle.year_labels.specs.Forms.{IsFit, IsFitView, IsPlaced};
 ghost use Rattle.label_spread.specs.Steps.{IsInSpan, IsInView};
-ghost use Rattle.label_spread.specs.Slots.{Indexes, IsIndexOf, LooksAt, slot_of, slots_of_block};
+ghost use Rattle.label_spread.specs.Slots.{Indexes, IsIndexOf, LooksAt, slot_of, slots_of_block, byte_at as the_byte_at};
 ghost use Rattle.label_spread.specs.declared.slots.Slot.{Slot as AnySlot};
 
 use std::alloc::{AllocError, Global};
@@ -9,16 +9,16 @@ use std::collections::BTreeSet;
 use y2k_base::{AreaId, BytePlace, Memory, Span};
 use year_labels::{RuleForm, RuleInst, View};
 
-/// That the rule of that index looks at a byte of that block of 64 bytes of the area.
+/// That the rule of that index gives or looks at facts of a byte of that block of 64 bytes of the area.
 #[derive(Clone, Copy, Debug, PartialEq, Eq, PartialOrd, Ord)]
-pub(crate) struct Slot {
+pub struct Slot {
     pub area: AreaId,
     pub block: u32,
     pub rule: usize,
 }
 
-/// Which rules look at the bytes of which blocks.
-pub(crate) fn index_rules(alloc: Global, rules: &[RuleInst]) -> Result<BTreeSet<Slot>, Memory>
+/// Which rules give or look at facts of the bytes of which blocks.
+pub fn index_rules(alloc: Global, rules: &[RuleInst]) -> Result<BTreeSet<Slot>, Memory>
     requires { All (λ r. IsFit r.form) rules.now }
     ensures { IfOk result (λ slots. IsIndexOf rules.now slots.keys) }
 {
@@ -34,7 +34,7 @@ fn index_form(form: &RuleForm, rule: usize, slots: &mut BTreeSet<Slot>) -> Resul
     ensures { OnOk result (Indexes (LooksAt form.now) rule slots.old.keys slots.new.keys) }
 {
     match form {
-        RuleForm::Give { .. } => Ok(()),
+        RuleForm::Give { fact } => index_span(byte_at(fact.place), rule, slots),
         RuleForm::GiveDigit { view, .. } => index_view(view, rule, slots),
         RuleForm::Alike { a, b } => {
             index_span(*a, rule, slots)?;
@@ -59,6 +59,17 @@ fn index_form(form: &RuleForm, rule: usize, slots: &mut BTreeSet<Slot>) -> Resul
             index_view(c, rule, slots)?;
             Ok(())
         }
+    }
+}
+
+/// The span of the one byte.
+fn byte_at(place: BytePlace) -> Span
+    ensures { result ≡ the_byte_at place }
+{
+    Span {
+        area: place.area,
+        offset: place.offset,
+        length: 1,
     }
 }
 
@@ -97,8 +108,8 @@ fn insert_slot(slot: Slot, slots: &mut BTreeSet<Slot>) -> Result<(), Memory>
     Ok(())
 }
 
-/// The slots of the rules that look at the block of the byte.
-pub(crate) fn slots_at(
+/// The slots of the block of the byte, in order of rules.
+pub fn slots_at(
     alloc: Global,
     slots: &BTreeSet<Slot>,
     place: BytePlace,

@@ -1,3 +1,4 @@
+use Rattle.label_spread.proofs.Only.{only_list}
 use Rattle.label_spread.proofs.Least.{AreDerivable-alike, IsLeast-alike}
 use Rattle.label_spread.proofs.closure.spread.Goals as goal
 
@@ -8,3 +9,6 @@ returns-clause-derivable c =
 pub returns-clause-least : goal.returns-clause-least
 returns-clause-least c =
     IsLeast-alike c.args.seeds.now c.args.rules.now _ _ c.requires c.in_ok-facts.ensures.derivation c.in_ok-facts.ensures.closed c.in_ok-labelling.ensures.same
+
+pub returns-clause-stretched : goal.returns-clause-stretched
+returns-clause-stretched c = only_list _
