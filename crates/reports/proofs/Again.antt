@@ -9,7 +9,7 @@ use Rattle.year_labels.specs.declared.label.Fact.{Fact}
 use Rattle.conflict_chain.specs.declared.chain.ChainStep.{ChainStep}
 use Rattle.conflict_chain.specs.declared.chain.Conflict.{Conflict}
 use Rattle.reports.proofs.Csv.{default_row}
-use Rattle.reports.specs.Conflicts.{Known, conflict_header, rows_from, side_rows, step_row}
+use Rattle.reports.specs.Conflicts.{Known, conflict_header, rows_from, side_rows}
 use Rattle.reports.specs.Labels.{label_header, label_row}
 use Rattle.reports.specs.Rows.{ReadsAs, row_text, rows_text}
 use Rattle.reports.specs.declared.names.AreaName.{AreaName}
