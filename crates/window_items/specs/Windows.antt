@@ -1,5 +1,5 @@
 -- The windows of a manifest over its portfolio.
-use Rattle.std.specs.Prelude.{◌≡◌, ℕ, Bool, List, [], ◌∷◌, Option, Some, map, is_none}
+use Rattle.std.specs.Prelude.{◌≡◌, ℕ, Bool, List, [], ◌∷◌, ◌++◌, Option, Some, map, is_none}
 use Rattle.std.specs.List.{find, flat_map}
 use Rattle.data_layout.specs.declared.portfolio.ItemRef.{ItemRef}
 use Rattle.data_layout.specs.declared.portfolio.Portfolio.{Portfolio}
@@ -17,6 +17,10 @@ AreItems means texts items = map means texts ≡ map Some items
 
 abbrev pub IsWindow : (List ℕ → Option ItemRef) → WindowGroup → Window → Type 0
 IsWindow means group window = (window.pivot ≡ group.pivot) × AreItems means group.items window.items
+
+-- with the window of one more group
+abbrev pub IsAdded : (List ℕ → Option ItemRef) → WindowGroup → List Window → List Window → Type 0
+IsAdded means group before now = (window : Window) × IsWindow means group window × (now ≡ before ++ window ∷ [])
 
 -- groups are these windows, one by one
 abbrev pub AreWindows : (List ℕ → Option ItemRef) → List WindowGroup → List Window → Type 0

@@ -1,4 +1,4 @@
-ghost use Rattle.std.specs.Prelude.{◌≡◌, IfOk, IfErr};
+ghost use Rattle.std.specs.Prelude.{◌≡◌, IfOk, IfErr, OnOk};
 ghost use Rattle.std.specs.List.{AllByRecursion, flat_map};
 ghost use Rattle.data_layout.specs.Index.{IsReady};
 ghost use Rattle.name_tables.specs.Table.{held};
@@ -54,13 +54,33 @@ fn groups_of(
     let mut windows = List::new(alloc);
     let mut rest = groups;
     while let [group, more @ ..] = rest {
-        match window_of(alloc, group, numbers, layouts) {
-            Ok(window) => windows.push(window)?,
+        match add_window(alloc, group, numbers, layouts, &mut windows) {
+            Ok(()) => rest = more,
             Err(fault) => return Err(fault),
         }
-        rest = more;
     }
     Ok(windows)
+}
+
+/// Adds the window that a group is.
+fn add_window(
+    alloc: Global,
+    group: &WindowGroup,
+    numbers: &NameTable<'_, u32>,
+    layouts: &[Layout],
+    windows: &mut List<Window>,
+) -> Result<(), WindowFault>
+    requires { AllByRecursion IsReady layouts.now }
+    ensures added { OnOk result (spec.IsAdded (meant_by (held numbers.now) layouts.now) group.now windows.old windows.new) }
+    ensures fault { IfErr result (spec.IsFirstUnknown (meant_by (held numbers.now) layouts.now) group.now.items) }
+{
+    match window_of(alloc, group, numbers, layouts) {
+        Ok(window) => {
+            windows.push(window)?;
+            Ok(())
+        }
+        Err(fault) => Err(fault),
+    }
 }
 
 fn window_of(
