@@ -15,19 +15,19 @@ use Rattle.shelf.specs.Causes.{Rose}
 use Rattle.window_items.specs.declared.fault.WindowFault.{WindowFault}
 use Rattle.window_items.specs.declared.fault.WindowFault.TheVariants as windows
 
-no36 : 3 ≡ 6 → ⊥
+no36 : ◌≡◌ {A = ℕ} 3 6 → ⊥
 no36 e = omega (arith, e)
 
-no86 : 8 ≡ 6 → ⊥
+no86 : ◌≡◌ {A = ℕ} 8 6 → ⊥
 no86 e = omega (arith, e)
 
-no32 : 3 ≡ 2 → ⊥
+no32 : ◌≡◌ {A = ℕ} 3 2 → ⊥
 no32 e = omega (arith, e)
 
-no62 : 6 ≡ 2 → ⊥
+no62 : ◌≡◌ {A = ℕ} 6 2 → ⊥
 no62 e = omega (arith, e)
 
-no82 : 8 ≡ 2 → ⊥
+no82 : ◌≡◌ {A = ℕ} 8 2 → ⊥
 no82 e = omega (arith, e)
 
 -- status 6 is the shelf's alone
