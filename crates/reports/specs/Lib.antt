@@ -1,0 +1,6 @@
+pub mod Rows
+pub mod Names
+pub mod Places
+pub mod Labels
+pub mod Conflicts
+pub mod Items
