@@ -3,8 +3,6 @@
 
 mod command;
 #[cfg(test)]
-mod portfolio_tests;
-#[cfg(test)]
 mod tests;
 mod top;
 

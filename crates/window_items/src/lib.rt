@@ -5,8 +5,6 @@ mod fault;
 mod group;
 mod item;
 mod name;
-#[cfg(test)]
-mod tests;
 mod window;
 
 pub use fault::WindowFault;
