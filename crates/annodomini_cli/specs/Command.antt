@@ -22,6 +22,16 @@ is_shelf_name name = is_name_rest false name
 abbrev pub IsLabelOne : List (List ℕ) → List ℕ → List ℕ → Type 0
 IsLabelOne words source item = (words ≡ codes "label-one" ∷ source ∷ item ∷ []) × (is_shelf_name source ≡ true)
 
+abbrev pub IsNoLabelOne : List (List ℕ) → Type 0
+IsNoLabelOne words = (source item : List ℕ) → IsLabelOne words source item → ⊥
+
+-- the words are `label M`
+abbrev pub IsLabel : List (List ℕ) → List ℕ → Type 0
+IsLabel words main = (words ≡ codes "label" ∷ main ∷ []) × (is_shelf_name main ≡ true)
+
+abbrev pub IsNoLabel : List (List ℕ) → Type 0
+IsNoLabel words = (main : List ℕ) → IsLabel words main → ⊥
+
 -- the words are none of the forms of the command line
 abbrev pub HaveNoForm : List (List ℕ) → Type 0
-HaveNoForm words = (source item : List ℕ) → IsLabelOne words source item → ⊥
+HaveNoForm words = IsNoLabelOne words × IsNoLabel words

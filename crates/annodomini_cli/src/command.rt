@@ -1,5 +1,5 @@
 ghost use Rattle.std.specs.Prelude.{◌≡◌, ◌↔◌, IsTrue, IfSome, IfNone, map, string_bytes, codes};
-ghost use Rattle.annodomini_cli.specs.Command.{HaveNoForm, IsLabelOne, is_shelf_name, is_part_byte};
+ghost use Rattle.annodomini_cli.specs.Command.{IsLabel, IsLabelOne, IsNoLabel, IsNoLabelOne, is_shelf_name, is_part_byte};
 
 /// The words of `label-one SRC ITEM` after the form's own.
 #[derive(Clone, Copy)]
@@ -11,7 +11,7 @@ pub struct LabelOne<'a> {
 /// The words of `label-one SRC ITEM`, where they have this form.
 pub fn label_one_of(words: &[String]) -> Option<LabelOne<'_>>
     ensures found { IfSome result (λ c. IsLabelOne (map string_bytes words.now) c.source.now c.item.now) }
-    ensures none { IfNone result (HaveNoForm (map string_bytes words.now)) }
+    ensures none { IfNone result (IsNoLabelOne (map string_bytes words.now)) }
 {
     let [form, source, item] = words else {
         return None;
@@ -28,6 +28,27 @@ fn is_label_one(word: &str) -> bool
     ensures { IsTrue result ↔ (word.now ≡ codes "label-one") }
 {
     word == "label-one"
+}
+
+/// The name of the manifest in the words of `label M`, where they have this form.
+pub fn label_of(words: &[String]) -> Option<&str>
+    ensures found { IfSome result (λ main. IsLabel (map string_bytes words.now) main.now) }
+    ensures none { IfNone result (IsNoLabel (map string_bytes words.now)) }
+{
+    let [form, main] = words else {
+        return None;
+    };
+    let main = main.as_str();
+    if !is_label(form.as_str()) || !is_name(main.as_bytes()) {
+        return None;
+    }
+    Some(main)
+}
+
+fn is_label(word: &str) -> bool
+    ensures { IsTrue result ↔ (word.now ≡ codes "label") }
+{
+    word == "label"
 }
 
 /// Whether the bytes are parts of letters, digits, points, hyphens and underscores joined by slashes, no

@@ -3,6 +3,8 @@
 
 mod command;
 #[cfg(test)]
+mod portfolio_tests;
+#[cfg(test)]
 mod tests;
 mod top;
 

@@ -2,11 +2,13 @@ ghost use Rattle.std.specs.Prelude.{◌≡◌, ℕ, List, map, string_bytes};
 ghost use Rattle.shelf.specs.Causes.{Rose};
 ghost use Rattle.answers.specs.Said.{IsSaid};
 ghost use Rattle.label_command.specs.Answer.{IsAnswered};
-ghost use Rattle.annodomini_cli.specs.Command.{HaveNoForm, IsLabelOne};
+ghost use Rattle.label_report.specs.Answer as report;
+ghost use Rattle.annodomini_cli.specs.Command.{HaveNoForm, IsLabel, IsLabelOne};
 
-use crate::command::label_one_of;
+use crate::command::{label_of, label_one_of};
 use answers::{USAGE, say};
 use label_command::label_one;
+use label_report::report_labels;
 use shelf::{Shelf, Sink};
 use std::alloc::Global;
 
@@ -28,6 +30,9 @@ pub fn annodomini<S: Shelf, K: Sink>(
     // The label lines of one program.
     ensures label_one { (source : List ℕ) → (item : List ℕ) → IsLabelOne (map string_bytes words.now) source item → IsAnswered source item (S.told shelf.old) (K.taken out.old) (K.taken out.new) result }
 
+    // The labels of the portfolio of a manifest, or its conflicts.
+    ensures label { (main : List ℕ) → IsLabel (map string_bytes words.now) main → report.IsAnswered (report.IsAnswer main (S.told shelf.old)) (K.taken out.old) (K.taken out.new) result }
+
     // A fault of the outside is answered only where it came.
     ensures shelf_fault { result ≡ 6 → Rose (S.faults shelf.old) (S.faults shelf.new) }
     ensures sink_fault { result ≡ 7 → Rose (K.faults out.old) (K.faults out.new) }
@@ -37,6 +42,9 @@ pub fn annodomini<S: Shelf, K: Sink>(
 {
     match label_one_of(words) {
         Some(found) => label_one(alloc, found.source, found.item, shelf, out),
-        None => say(USAGE_LINE.as_bytes(), USAGE, out),
+        None => match label_of(words) {
+            Some(main) => report_labels(alloc, main, shelf, out),
+            None => say(USAGE_LINE.as_bytes(), USAGE, out),
+        },
     }
 }

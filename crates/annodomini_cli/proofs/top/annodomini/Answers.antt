@@ -1,7 +1,8 @@
-use Rattle.std.proofs.Common.{◌≡◌, ℕ, List, [], ◌∷◌, Option, sym, ◌∙◌, ap, subst}
+use Rattle.std.proofs.Common.{◌≡◌, ◌≢◌, ℕ, Bool, List, [], ◌∷◌, length, Option, sym, ◌∙◌, ap, subst}
 use Rattle.shelf.specs.Contents.{Files}
 use Rattle.label_command.specs.Answer.{IsAnswered}
-use Rattle.annodomini_cli.specs.Command.{IsLabelOne}
+use Rattle.label_report.specs.Answer as report
+use Rattle.annodomini_cli.specs.Command.{IsLabel, IsLabelOne}
 use Rattle.annodomini_cli.proofs.top.annodomini.Goals as goal
 
 abbrev second : List (List ℕ) → List ℕ
@@ -12,6 +13,13 @@ abbrev third : List (List ℕ) → List ℕ
 third (a ∷ b ∷ c ∷ ws) = c
 third _ = []
 
+two_or_three : (a b d e f : List ℕ) → a ∷ b ∷ [] ≡ d ∷ e ∷ f ∷ [] → ⊥
+two_or_three a b d e f is = cc
+
+-- no words have both forms
+pub one_form : (words : List (List ℕ)) (source item main : List ℕ) → IsLabelOne words source item → IsLabel words main → ⊥
+one_form words source item main is so = two_or_three _ _ _ _ _ (sym so.0 ∙ is.0)
+
 -- words that are one form in two ways are so in one way
 same-form : (words : List (List ℕ)) (source item other object : List ℕ) (told : Option Files) (before after : Option (List ℕ)) (status : ℕ)
     → IsLabelOne words source item → IsLabelOne words other object → IsAnswered source item told before after status
@@ -20,11 +28,17 @@ same-form words source item other object told before after status is so answered
     subst (λ (s : List ℕ). IsAnswered s object told before after status) (sym (ap second is.0) ∙ ap second so.0)
     (subst (λ (i : List ℕ). IsAnswered source i told before after status) (sym (ap third is.0) ∙ ap third so.0) answered)
 
+same-label : (words : List (List ℕ)) (main other : List ℕ) (told : Option Files) (before after : Option (List ℕ)) (status : ℕ)
+    → IsLabel words main → IsLabel words other → report.IsAnswered (report.IsAnswer main told) before after status
+    → report.IsAnswered (report.IsAnswer other told) before after status
+same-label words main other told before after status is so answered =
+    subst (λ (m : List ℕ). report.IsAnswered (report.IsAnswer m told) before after status) (sym (ap second is.0) ∙ ap second so.0) answered
+
 pub returns-in-Some-clause-usage : goal.returns-in-Some-clause-usage
-returns-in-Some-clause-usage g c = λ none. absurd (none _ _ c.in-Some.ensures.found)
+returns-in-Some-clause-usage g c = λ none. absurd (none.0 _ _ c.in-Some.ensures.found)
 
 pub returns-in-Some-clause-label_one : goal.returns-in-Some-clause-label_one
 returns-in-Some-clause-label_one g c = λ source item is. same-form _ _ _ source item _ _ _ _ c.in-Some.ensures.found is c.label_one.ensures.answer
 
-pub returns-in-None-clause-label_one : goal.returns-in-None-clause-label_one
-returns-in-None-clause-label_one g c = λ source item is. absurd (c.in-None.ensures.none source item is)
+pub returns-in-Some-clause-label : goal.returns-in-Some-clause-label
+returns-in-Some-clause-label g c = λ main is. absurd (one_form _ _ _ main c.in-Some.ensures.found is)

@@ -1,0 +1,6 @@
+//! The form `label M` of the command line: the labels of the portfolio of a manifest, or its conflicts.
+#![tactic(auto)]
+
+mod command;
+
+pub use command::report_labels;
