@@ -8,10 +8,11 @@ use Rattle.std.proofs.lemmas.List.{append-nil, length-append, length-drop, take-
 use Rattle.byte_lists.specs.Digit.{is_digit, all_digits, all_zero, number, decimal, aligned, codes}
 use Rattle.program_meaning.specs.Number.{Decimal, NumForm, with_sign, is_minus, value_of, value_minus, at_point, kept_minus}
 use Rattle.program_meaning.specs.Kind.{Kind, form_of}
-use Rattle.program_meaning.specs.Moves.{stored, stored_digits, stored_number, shown_number}
-use Rattle.program_meaning.specs.Arithmetic.{Scaled, exact, result_bytes, stored_value}
+use Rattle.program_meaning.specs.Moves.{stored, stored_digits, stored_number, shown_number, literal_number}
+use Rattle.program_meaning.specs.Arithmetic.{Scaled, exact, result_bytes, stored_value, scaled}
 use Rattle.number_bytes.specs.Stored.{moved_value, shown}
 use Rattle.number_bytes.proofs.DigitLaws.{ten_pos, number-decimal, number_below, decimal-above, decimal-number, all_digits-decimal}
+use Rattle.number_bytes.proofs.BinaryLaws.{with_sign-unsigned_abs}
 use Rattle.number_bytes.proofs.Agreement.{unsigned_abs-with_sign}
 
 -- zeros in front
@@ -250,3 +251,8 @@ shown-is form d v digits count good same =
     ∙ ap (λ (m : ℕ). cond {A = List ℕ} (value_minus d) (45 ∷ []) [] ++ codes (decimal digits m)) size
     ∙ ap (λ (i : ℕ). cond {A = List ℕ} (value_minus d) (45 ∷ []) [] ++ codes (decimal i n)) (sym count)
     ∙ ap (λ (ds : List ℕ). cond {A = List ℕ} (value_minus d) (45 ∷ []) [] ++ codes ds) (sym (aligned-is form.digits d.digits good))
+
+-- a literal is the number that is written
+pub literal-exact : (v : ℤ) (scale digits : ℕ) → unsigned_abs v < 10 ^ digits → exact (literal_number v scale digits) ≡ scaled v scale
+literal-exact v scale digits small =
+    ap (λ (m : ℕ). scaled (with_sign (is_minus v) m) scale) (number-decimal digits (unsigned_abs v) ∙ mod-eq_of_lt small) ∙ ap (λ (z : ℤ). scaled z scale) (with_sign-unsigned_abs v)

@@ -17,3 +17,6 @@ pub use digits::{put_digits, shown_number};
 pub use editing::store_edited;
 pub use reading::{read_number, text_number};
 pub use storing::{at_point, store_number, stored_value};
+
+#[cfg(test)]
+mod tests;

@@ -6,7 +6,7 @@ ghost use Rattle.byte_lists.specs.Digit.{decimal};
 ghost use Rattle.program_meaning.specs.Number as meant;
 ghost use Rattle.program_meaning.specs.Number.{with_sign, is_minus, number_bytes};
 ghost use Rattle.program_meaning.specs.Kind as kind;
-ghost use Rattle.program_meaning.specs.Moves.{stored_number};
+ghost use Rattle.program_meaning.specs.Moves.{stored_number, literal_number};
 ghost use Rattle.program_meaning.specs.Arithmetic as exact;
 ghost use Rattle.tree_reading.specs.Reading.{read_usage};
 ghost use Rattle.number_bytes.specs.Held.{read_form, read_scaled, number_length, IsExactly};
@@ -23,6 +23,8 @@ pub fn at_point(number: Scaled, scale: u8) -> i128
     ensures value { result ≡ moved_value scale (read_scaled number) }
     ensures stored { (k : kind.Kind) (d : meant.Decimal) → (kind.form_of k).scale ≡ scale → IsExactly d number →
         stored_number k d ≡ exact.result_bytes k result }
+    ensures literal { (k : kind.Kind) (digits : ℕ) → (kind.form_of k).scale ≡ scale → unsigned_abs number.number < 10 ^ digits →
+        stored_number k (literal_number number.number number.scale digits) ≡ exact.result_bytes k result }
 {
     let magnitude = moved(number.number.unsigned_abs(), number.scale, scale);
     signed(number.number < 0, magnitude)
