@@ -611,11 +611,7 @@ fn copies_items(alloc: Global, count: u32) -> Result<Text, Fail> {
 #[test]
 fn a_copy_statement_may_replace_by_160_pairs(rt: HostRuntime) -> Result<(), Fail> {
     let alloc = rt.alloc();
-    let texts = two(
-        alloc,
-        book_of_items(alloc, 160)?,
-        copies_items(alloc, 160)?,
-    )?;
+    let texts = two(alloc, book_of_items(alloc, 160)?, copies_items(alloc, 160)?)?;
     assert!(rt; has_items(alloc, texts, &[160]));
     Ok(())
 }
@@ -665,12 +661,7 @@ fn add_programs(
     Ok(())
 }
 
-fn has_programs(
-    alloc: Global,
-    manifest: &Manifest,
-    shelf: &mut MemoryShelf,
-    count: usize,
-) -> bool {
+fn has_programs(alloc: Global, manifest: &Manifest, shelf: &mut MemoryShelf, count: usize) -> bool {
     match gather(alloc, manifest, "", 0, shelf) {
         Ok(gathered) => gathered.portfolio.layouts.len() == count,
         Err(_) => false,
