@@ -1,8 +1,10 @@
 //! Where a run of a program goes on: what is left to do, and the open PERFORMs.
 #![tactic(auto)]
 
+mod labels;
 mod position;
 mod task;
 
+pub use labels::Labels;
 pub use position::Position;
 pub use task::{Body, Loop, Stage, Task};
