@@ -8,9 +8,12 @@ use Rattle.cobol_syntax.specs.declared.program.Paragraph.{Paragraph}
 use Rattle.cobol_syntax.specs.declared.program.Sentence.{Sentence}
 use Rattle.tree_reading.specs.Reading.{read_statement, read_statements, read_sentence, read_paragraph}
 use Rattle.program_meaning.specs.Tree as tree
+use Rattle.program_meaning.specs.Step.{step_at}
 use Rattle.program_meaning.specs.State.{Task, Do, Frame, Next, before, point, settle, at_first, first_of, fall, at_end}
+use Rattle.run_control.specs.declared.task.Task as task
 use Rattle.run_control.specs.declared.position.Position.{Position}
-use Rattle.run_control.specs.Held.{Held, held, tasks_of, frames_of, next_with_list}
+use Rattle.run_control.specs.Held.{Held, held, tasks_of, frames_of, next_with_list, next_of, task_before}
+use Rattle.run_control.specs.Program.{Steps, Stops}
 use Rattle.run_control.specs.Moves.{Stays}
 
 -- a sentence is its statements
@@ -64,3 +67,10 @@ of_front old new list s some first entries sentences paragraphs =
     ∙ ap (λ (h : Held). (point (Do (read_statement s) ∷ h.tasks) (map read_sentence old.sentences.now) (map read_paragraph old.paragraphs.now), h.frames)) (sym entries)
     ∙ ap (λ (ss : Bor (List Sentence)). (point (Do (read_statement s) ∷ tasks_of new) (map read_sentence ss.now) (map read_paragraph old.paragraphs.now), frames_of new)) (sym sentences)
     ∙ ap (λ (ps : Bor (List Paragraph)). (point (Do (read_statement s) ∷ tasks_of new) (map read_sentence new.sentences.now) (map read_paragraph ps.now), frames_of new)) (sym paragraphs)
+
+-- the step from a position whose next task is known
+pub of_step : (p q : Position) (t : task.Task) → next_of p ≡ task_before t q → Steps p t q
+of_step p q t e = λ program day w. ap (λ (n : Next). step_at program day n.0.tasks n.0 n.1 w) e
+
+pub of_stop : (p : Position) → next_of p ≡ at_end → Stops p
+of_stop p e = λ program day w. ap (λ (n : Next). step_at program day n.0.tasks n.0 n.1 w) e

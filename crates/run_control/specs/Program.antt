@@ -1,8 +1,30 @@
--- The program that is run.
+-- The program that is run, and the ways on of its meaning.
 use Rattle.std.specs.Prelude.{◌≡◌, List, map}
 use Rattle.tree_reading.specs.Reading.{read_paragraph}
 use Rattle.program_meaning.specs.Tree.{Paragraph}
+use Rattle.program_meaning.specs.State.{Program, World, State, Stopped}
+use Rattle.program_meaning.specs.Step.{Calendar, step, act_task}
 use Rattle.run_control.specs.declared.labels.Labels.{Labels}
+use Rattle.run_control.specs.declared.task.Task.{Task}
+use Rattle.run_control.specs.declared.position.Position.{Position}
+use Rattle.run_control.specs.Held.{state_at, read_task, point_of, frames_of}
 
 abbrev pub paragraphs_of : Labels → List Paragraph
 paragraphs_of labels = map read_paragraph labels.paragraphs.now
+
+-- in every world the way on leads to the position
+abbrev pub Leads : Position → (Program → Calendar → World → State) → Type 0
+Leads p way = (program : Program) (day : Calendar) (w : World) → way program day w ≡ state_at p w
+
+-- the same in every program that has these paragraphs
+abbrev pub LeadsIn : Labels → Position → (Program → Calendar → World → State) → Type 0
+LeadsIn labels p way = (program : Program) (day : Calendar) (w : World) → program.paragraphs ≡ paragraphs_of labels → way program day w ≡ state_at p w
+
+-- the next step is the end of the text, a STOP RUN
+abbrev pub Stops : Position → Type 0
+Stops p = (program : Program) (day : Calendar) (w : World) → step program day (state_at p w) ≡ Stopped w
+
+-- the next step is the task, with this position after it
+abbrev pub Steps : Position → Task → Position → Type 0
+Steps p task q =
+    (program : Program) (day : Calendar) (w : World) → step program day (state_at p w) ≡ act_task program day (read_task task) (point_of q) (frames_of q) w

@@ -4,6 +4,7 @@
 mod labels;
 mod position;
 mod task;
+mod turns;
 
 pub use labels::Labels;
 pub use position::Position;

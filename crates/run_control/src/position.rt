@@ -1,11 +1,13 @@
 ghost use Rattle.std.specs.Prelude.{◌≡◌, ◌<◌, ◌+◌, ◌∷◌, [], ℕ, OnOk, IfOk, MatchOption, IfSome, IfNone, length, map};
 ghost use Rattle.cobol_syntax.specs.declared.program.Paragraph.{Paragraph};
-ghost use Rattle.program_meaning.specs.State.{World, Program, at_end, is_last};
-ghost use Rattle.program_meaning.specs.Step.{Calendar};
+ghost use Rattle.program_meaning.specs.State.{at_end, at_front, on};
+ghost use Rattle.tree_reading.specs.Reading.{read_sentence, read_paragraph};
 ghost use Rattle.run_control.specs.Held.{held, with_entry, nothing_held, tasks_of, frames_of, point_of, held_with, next_of, next_with, next_with_list, state_at, task_before};
 ghost use Rattle.run_control.specs.Work.{work, entry_work, entries_work, frame_work};
 ghost use Rattle.run_control.specs.Moves.{HasMoved, Stays};
+ghost use Rattle.run_control.specs.Program.{LeadsIn, Stops, Steps};
 
+use crate::labels::Labels;
 use crate::task::{Entry, Frame, Task};
 use cobol_syntax::{Paragraph, Sentence, Statement};
 use std::alloc::Global;
@@ -14,11 +16,11 @@ use y2k_base::Memory;
 /// Where a run of a program is.
 pub struct Position<'a> {
     /// What is left of the sentence, the newest entry last, and below each open PERFORM what is left where it goes on.
-    entries: Vec<Entry<'a>>,
+    pub(crate) entries: Vec<Entry<'a>>,
     /// The sentences left of the paragraph.
-    sentences: &'a [Sentence],
+    pub(crate) sentences: &'a [Sentence],
     /// The paragraphs after it.
-    paragraphs: &'a [Paragraph],
+    pub(crate) paragraphs: &'a [Paragraph],
 }
 
 impl Drop for Position<'_> {
@@ -42,6 +44,37 @@ enum Move<'a> {
 }
 
 impl<'a> Position<'a> {
+    /// The first statement of a program, with no open PERFORM.
+    pub fn start(alloc: Global, labels: &Labels<'a>) -> Position<'a>
+        ensures { LeadsIn labels.now result (λ program day w. on [] (at_front program.paragraphs) w) }
+    {
+        let mut position = Position {
+            entries: Vec::new(alloc),
+            sentences: &[],
+            paragraphs: &[],
+        };
+        position.stand_before(labels.paragraphs());
+        position
+    }
+
+    /// Stands at the front of the first of these paragraphs.
+    pub(crate) fn stand_before(&mut self, paragraphs: &'a [Paragraph])
+        ensures entries { self.new.entries ≡ self.old.entries }
+        ensures sentences { map read_sentence self.new.sentences.now ≡ (at_front (map read_paragraph paragraphs.now)).sentences }
+        ensures paragraphs { map read_paragraph self.new.paragraphs.now ≡ (at_front (map read_paragraph paragraphs.now)).paragraphs }
+    {
+        match paragraphs {
+            [] => {
+                self.sentences = &[];
+                self.paragraphs = &[];
+            }
+            [paragraph, more @ ..] => {
+                self.sentences = paragraph.sentences.items();
+                self.paragraphs = more;
+            }
+        }
+    }
+
     /// Puts an entry on the stack.
     pub(crate) fn push(&mut self, entry: Entry<'a>) -> Result<(), Memory>
         ensures held { OnOk result (held self.new.entries.items ≡ with_entry (held self.old.entries.items) entry.entry) }
@@ -176,9 +209,9 @@ impl<'a> Position<'a> {
         }
     }
 
-    /// Takes the next task off, past the ends of sentences, paragraphs and PERFORMs.
-    pub fn next(&mut self) -> Result<Option<Task<'a>>, Memory>
-        ensures { IfOk result (λ next. MatchOption next ((next_of self.old ≡ at_end) × (next_of self.new ≡ at_end)) (λ task. next_of self.old ≡ task_before task self.new)) }
+    /// Takes the next task off, past the ends of sentences, paragraphs and PERFORMs, which takes no step.
+    fn find_task(&mut self) -> Result<Option<Task<'a>>, Memory>
+        ensures { IfOk result (λ found. MatchOption found (next_of self.old ≡ at_end) (λ task. next_of self.old ≡ task_before task self.new)) }
     {
         loop {
             match self.advance()? {
@@ -187,5 +220,14 @@ impl<'a> Position<'a> {
                 Move::Passed => {}
             }
         }
+    }
+
+    /// Takes the next step's task off. `None` is the end of the text, where the step is a STOP RUN.
+    #[tactic(auto, using(crate::proofs::Settled::of_step, crate::proofs::Settled::of_stop))]
+    pub fn next_task(&mut self) -> Result<Option<Task<'a>>, Memory>
+        ensures { IfOk result (λ found. MatchOption found (Stops self.old) (λ task. Steps self.old task self.new)) }
+    {
+        let found = self.find_task()?;
+        Ok(found)
     }
 }

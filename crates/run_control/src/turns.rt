@@ -1,0 +1,228 @@
+ghost use Rattle.std.specs.Prelude.{◌≡◌, ℕ, ◌∷◌, ◌++◌, [], OnOk, map};
+ghost use Rattle.tree_reading.specs.Reading.{read_statements, read_sentence, read_paragraph, read_id};
+ghost use Rattle.program_meaning.specs.Tree.{StatementId as Id, GoTo, NextSentence};
+ghost use Rattle.program_meaning.specs.State.{Program, at_front};
+ghost use Rattle.program_meaning.specs.Step.{Calendar, act, begin, turn, turns, times_turn, until_turn, after_turn, further, tested, advanced, begun, entered};
+ghost use Rattle.run_control.specs.Held.{held, Held, frames_of, tasks_of, point_of, read_body, read_loop};
+ghost use Rattle.run_control.specs.Program.{Leads, LeadsIn};
+
+use crate::labels::Labels;
+use crate::position::Position;
+use crate::task::{Body, Entry, Frame, Loop, Stage, Task};
+use cobol_syntax::{Statement, StatementId};
+use y2k_base::Memory;
+
+impl<'a> Position<'a> {
+    /// Drops what is left of the sentence.
+    fn drop_tasks(&mut self) -> Result<(), Memory>
+        ensures tasks { OnOk result (tasks_of self.new ≡ []) }
+        ensures frames { OnOk result (frames_of self.new ≡ frames_of self.old) }
+        ensures sentences { self.new.sentences ≡ self.old.sentences }
+        ensures paragraphs { self.new.paragraphs ≡ self.old.paragraphs }
+    {
+        loop {
+            match self.pop() {
+                None => return Ok(()),
+                Some(Entry::Return(frame)) => {
+                    self.push(Entry::Return(frame))?;
+                    return Ok(());
+                }
+                Some(Entry::Rest(_)) => {}
+                Some(Entry::Next(_)) => {}
+            }
+        }
+    }
+
+    /// A list of statements in front of what is left.
+    pub fn begin(&mut self, list: &'a [Statement]) -> Result<(), Memory>
+        ensures { OnOk result (Leads self.new (λ program day w. begin program day (read_statements list.now) (point_of self.old) (frames_of self.old) w)) }
+    {
+        self.push(Entry::Rest(list))?;
+        Ok(())
+    }
+
+    /// NEXT SENTENCE.
+    pub fn next_sentence(&mut self) -> Result<(), Memory>
+        ensures { (id : Id) → OnOk result (Leads self.new (λ program day w. act program day id NextSentence (point_of self.old) (frames_of self.old) w)) }
+    {
+        self.drop_tasks()?;
+        Ok(())
+    }
+
+    /// GO TO.
+    pub fn go_to(&mut self, labels: &Labels<'a>, name: &[u8]) -> Result<(), Memory>
+        ensures { (id : Id) → OnOk result (LeadsIn labels.now self.new (λ program day w. act program day id (GoTo name.now) (point_of self.old) (frames_of self.old) w)) }
+    {
+        self.drop_tasks()?;
+        self.stand_before(labels.paragraphs_from(name));
+        Ok(())
+    }
+
+    /// A turn of what is performed: PERFORM without a phrase, or a turn under TIMES or UNTIL.
+    pub fn turn(&mut self, labels: &Labels<'a>, what: Body<'a>) -> Result<(), Memory>
+        ensures { OnOk result (LeadsIn labels.now self.new (λ program day w. turn program day (read_body what.entry) [] (point_of self.old) (frames_of self.old) w)) }
+    {
+        match what {
+            Body::Inline(list) => {
+                self.push(Entry::Rest(list))?;
+                Ok(())
+            }
+            Body::Through(range) => {
+                let after = labels.left_after(range.last.items());
+                self.open(after)?;
+                self.stand_before(labels.paragraphs_from(range.first.items()));
+                Ok(())
+            }
+        }
+    }
+
+    /// Opens a PERFORM whose range so many paragraphs come after, and which goes on here.
+    fn open(&mut self, after: usize) -> Result<(), Memory>
+        ensures { OnOk result (held self.new.entries.items ≡ record { tasks = []; frames = record { after = after; goes_on = point_of self.old } ∷ frames_of self.old }) }
+    {
+        let frame = Frame {
+            after,
+            sentences: self.sentences,
+            paragraphs: self.paragraphs,
+        };
+        self.push(Entry::Return(frame))?;
+        Ok(())
+    }
+
+    /// A turn under TIMES, with `left` turns left with this one.
+    pub fn turn_again(&mut self, labels: &Labels<'a>, id: StatementId, what: Body<'a>, left: u128) -> Result<(), Memory>
+        ensures { OnOk result (LeadsIn labels.now self.new (λ program day w. times_turn program day (read_id id) (read_body what.entry) left (point_of self.old) (frames_of self.old) w)) }
+    {
+        match left {
+            0 => Ok(()),
+            1 => {
+                self.turn(labels, what)?;
+                Ok(())
+            }
+            _ => {
+                let left = left - 1;
+                self.push(Entry::Next(Task::Turn { id, what, left }))?;
+                self.turn(labels, what)?;
+                Ok(())
+            }
+        }
+    }
+
+    /// PERFORM with TIMES, where the count is this number.
+    pub fn perform_times(&mut self, labels: &Labels<'a>, id: StatementId, what: Body<'a>, count: i128) -> Result<(), Memory>
+        ensures { OnOk result (LeadsIn labels.now self.new (λ program day w. times_turn program day (read_id id) (read_body what.entry) (turns count) (point_of self.old) (frames_of self.old) w)) }
+    {
+        self.turn_again(labels, id, what, turns_of(count))?;
+        Ok(())
+    }
+
+    /// PERFORM with UNTIL.
+    pub fn perform_until(&mut self, labels: &Labels<'a>, perform: Loop<'a>) -> Result<(), Memory>
+        ensures { OnOk result (LeadsIn labels.now self.new (λ program day w. entered program day (read_loop perform.entry) (read_loop perform.entry).vary (point_of self.old) (frames_of self.old) w)) }
+    {
+        match perform.vary {
+            None => {
+                self.after_setting(labels, perform)?;
+                Ok(())
+            }
+            Some(vary) => {
+                self.push(Entry::Next(Task::Loop(Stage::Set(vary), perform)))?;
+                Ok(())
+            }
+        }
+    }
+
+    /// After the item of VARYING is set.
+    pub fn after_setting(&mut self, labels: &Labels<'a>, perform: Loop<'a>) -> Result<(), Memory>
+        ensures { OnOk result (LeadsIn labels.now self.new (λ program day w. begun program day (read_loop perform.entry) (point_of self.old) (frames_of self.old) w)) }
+    {
+        if perform.after {
+            self.turn_until(labels, perform)?;
+            Ok(())
+        } else {
+            self.push(Entry::Next(Task::Loop(Stage::Test, perform)))?;
+            Ok(())
+        }
+    }
+
+    /// After the item of VARYING is stepped.
+    pub fn after_stepping(&mut self, labels: &Labels<'a>, perform: Loop<'a>) -> Result<(), Memory>
+        ensures { OnOk result (LeadsIn labels.now self.new (λ program day w. advanced program day (read_loop perform.entry) (point_of self.old) (frames_of self.old) w)) }
+    {
+        if perform.after {
+            self.turn_until(labels, perform)?;
+            Ok(())
+        } else {
+            Ok(())
+        }
+    }
+
+    /// After the test of UNTIL, where the condition holds or not.
+    pub fn after_test(&mut self, labels: &Labels<'a>, perform: Loop<'a>, holds: bool) -> Result<(), Memory>
+        ensures { OnOk result (LeadsIn labels.now self.new (λ program day w. tested program day (read_loop perform.entry) holds (point_of self.old) (frames_of self.old) w)) }
+    {
+        if holds {
+            Ok(())
+        } else {
+            self.further_turn(labels, perform)?;
+            Ok(())
+        }
+    }
+
+    /// A further turn under UNTIL: after a test behind the turn the stepping comes first.
+    fn further_turn(&mut self, labels: &Labels<'a>, perform: Loop<'a>) -> Result<(), Memory>
+        ensures { OnOk result (LeadsIn labels.now self.new (λ program day w. further program day (read_loop perform.entry) perform.entry.after (read_loop perform.entry).vary (point_of self.old) (frames_of self.old) w)) }
+    {
+        if perform.after {
+            match perform.vary {
+                Some(vary) => {
+                    self.push(Entry::Next(Task::Loop(Stage::Advance(vary), perform)))?;
+                    Ok(())
+                }
+                None => {
+                    self.turn_until(labels, perform)?;
+                    Ok(())
+                }
+            }
+        } else {
+            self.turn_until(labels, perform)?;
+            Ok(())
+        }
+    }
+
+    /// A turn under UNTIL, and what follows it.
+    fn turn_until(&mut self, labels: &Labels<'a>, perform: Loop<'a>) -> Result<(), Memory>
+        ensures { OnOk result (LeadsIn labels.now self.new (λ program day w. until_turn program day (read_loop perform.entry) (point_of self.old) (frames_of self.old) w)) }
+    {
+        self.push_after_turn(perform)?;
+        self.turn(labels, perform.what)?;
+        Ok(())
+    }
+
+    /// What follows a turn under UNTIL, in front of what is left.
+    fn push_after_turn(&mut self, perform: Loop<'a>) -> Result<(), Memory>
+        ensures held { (program : Program) (day : Calendar) → OnOk result (held self.new.entries.items ≡ record { tasks = after_turn program day (read_loop perform.entry) ++ tasks_of self.old; frames = frames_of self.old }) }
+        ensures sentences { self.new.sentences ≡ self.old.sentences }
+        ensures paragraphs { self.new.paragraphs ≡ self.old.paragraphs }
+    {
+        self.push(Entry::Next(Task::Loop(Stage::Test, perform)))?;
+        if perform.after {
+            Ok(())
+        } else {
+            match perform.vary {
+                None => Ok(()),
+                Some(vary) => {
+                    self.push(Entry::Next(Task::Loop(Stage::Advance(vary), perform)))?;
+                    Ok(())
+                }
+            }
+        }
+    }
+}
+
+/// How many turns a count makes: one below 1 makes none.
+fn turns_of(count: i128) -> u128
+    ensures { result ≡ turns count }
+{
+    if count < 0 { 0 } else { count as u128 }
+}
