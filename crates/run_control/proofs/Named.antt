@@ -38,7 +38,8 @@ here n p ps same =
     record {
       rest = found ∙ ap (λ (k : ℕ). drop k (p ∷ ps)) (sym none);
       within = omega arith;
-      after = ap after_range found }
+      after = ap after_range found;
+    }
 
 further : (n : tree.Name) (p : tree.Paragraph) (ps : List tree.Paragraph) (l : Label) → same_name n p.name ≡ false → Stands n ps l → Stands n (p ∷ ps) l
 further n p ps l other stands =
@@ -48,7 +49,8 @@ further n p ps l other stands =
     record {
       rest = found ∙ stands.rest ∙ ap (λ (k : ℕ). drop k (p ∷ ps)) (sym more);
       within = omega arith;
-      after = ap after_range found ∙ stands.after }
+      after = ap after_range found ∙ stands.after;
+    }
 
 by_test : (n : tree.Name) (p : tree.Paragraph) (ps : List tree.Paragraph) (l : Label) (b : Bool) → same_name n p.name ≡ b →
     ((label_of n ps ≡ Some l) → Stands n ps l) → (if b then Some (label_here p ps) else label_of n ps) ≡ Some l → Stands n (p ∷ ps) l

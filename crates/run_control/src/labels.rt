@@ -79,7 +79,11 @@ fn range_end(paragraph: &Paragraph, left: usize, section_end: usize) -> usize
     requires { 1 ≤ left }
     ensures { result ≡ cond paragraph.now.section section_end (left - 1) }
 {
-    if paragraph.section { section_end } else { left - 1 }
+    if paragraph.section {
+        section_end
+    } else {
+        left - 1
+    }
 }
 
 /// The same for the paragraphs that stand before this one in its section: a section ends where the next one begins.

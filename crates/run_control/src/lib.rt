@@ -4,6 +4,8 @@
 mod labels;
 mod position;
 mod task;
+#[cfg(test)]
+mod tests;
 mod turns;
 
 pub use labels::Labels;

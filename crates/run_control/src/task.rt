@@ -1,7 +1,6 @@
-ghost use Rattle.std.specs.Prelude.{◌≡◌};
-ghost use Rattle.tree_reading.specs.Reading.{read_performed, read_statement};
-ghost use Rattle.std.specs.Prelude.{map};
-ghost use Rattle.run_control.specs.Held.{read_body};
+ghost use Rattle.std.specs.Prelude.{◌≡◌, map};
+ghost use Rattle.tree_reading.specs.Reading.{read_performed, read_statement, read_condition, read_id, vary_if};
+ghost use Rattle.run_control.specs.Held.{read_body, read_loop};
 
 use cobol_syntax::{Condition, NamePair, Paragraph, Sentence, Statement, StatementId, Vary};
 use y2k_base::List;
@@ -35,6 +34,36 @@ pub struct Loop<'a> {
     pub after: bool,
     pub test: &'a Condition,
     pub vary: Option<&'a Vary>,
+}
+
+impl<'a> Loop<'a> {
+    /// The loop that a PERFORM statement with this range and these statements enters.
+    pub fn of(
+        id: StatementId,
+        what: Body<'a>,
+        after: bool,
+        test: &'a Condition,
+        vary: &'a Option<Vary>,
+    ) -> Loop<'a>
+        ensures { read_loop result ≡ record { id = read_id id; what = read_body what.entry; after = after; test = read_condition test.now; vary = vary_if vary.now } }
+    {
+        match vary {
+            Some(vary) => Loop {
+                id,
+                what,
+                after,
+                test,
+                vary: Some(vary),
+            },
+            None => Loop {
+                id,
+                what,
+                after,
+                test,
+                vary: None,
+            },
+        }
+    }
 }
 
 /// What a loop does next: it sets the item of VARYING, or steps it, or tests its condition.

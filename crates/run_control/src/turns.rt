@@ -90,7 +90,13 @@ impl<'a> Position<'a> {
     }
 
     /// A turn under TIMES, with `left` turns left with this one.
-    pub fn turn_again(&mut self, labels: &Labels<'a>, id: StatementId, what: Body<'a>, left: u128) -> Result<(), Memory>
+    pub fn turn_again(
+        &mut self,
+        labels: &Labels<'a>,
+        id: StatementId,
+        what: Body<'a>,
+        left: u128,
+    ) -> Result<(), Memory>
         ensures { OnOk result (LeadsIn labels.now self.new (λ program day w. times_turn program day (read_id id) (read_body what.entry) left (point_of self.old) (frames_of self.old) w)) }
     {
         match left {
@@ -109,7 +115,13 @@ impl<'a> Position<'a> {
     }
 
     /// PERFORM with TIMES, where the count is this number.
-    pub fn perform_times(&mut self, labels: &Labels<'a>, id: StatementId, what: Body<'a>, count: i128) -> Result<(), Memory>
+    pub fn perform_times(
+        &mut self,
+        labels: &Labels<'a>,
+        id: StatementId,
+        what: Body<'a>,
+        count: i128,
+    ) -> Result<(), Memory>
         ensures { OnOk result (LeadsIn labels.now self.new (λ program day w. times_turn program day (read_id id) (read_body what.entry) (turns count) (point_of self.old) (frames_of self.old) w)) }
     {
         self.turn_again(labels, id, what, turns_of(count))?;
@@ -158,7 +170,12 @@ impl<'a> Position<'a> {
     }
 
     /// After the test of UNTIL, where the condition holds or not.
-    pub fn after_test(&mut self, labels: &Labels<'a>, perform: Loop<'a>, holds: bool) -> Result<(), Memory>
+    pub fn after_test(
+        &mut self,
+        labels: &Labels<'a>,
+        perform: Loop<'a>,
+        holds: bool,
+    ) -> Result<(), Memory>
         ensures { OnOk result (LeadsIn labels.now self.new (λ program day w. tested program day (read_loop perform.entry) holds (point_of self.old) (frames_of self.old) w)) }
     {
         if holds {

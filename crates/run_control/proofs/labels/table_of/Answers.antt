@@ -13,7 +13,8 @@ pub loop-at-init : goal.loop-at-init
 loop-at-init c = record {
   found = λ name. ap (λ (f : List ℕ → Option Label). f name) c.new-table.ensures ∙ sym (ap (λ (ps : List Paragraph). label_of name (map read_paragraph ps)) (drop-length c.args.paragraphs.now));
   ends = sym (ap (λ (ps : List Paragraph). after_section (map read_paragraph ps)) (drop-length c.args.paragraphs.now));
-  within = omega arith }
+  within = omega arith;
+}
 
 pub loop-at-preserved : goal.loop-at-preserved
 loop-at-preserved c =
@@ -21,11 +22,12 @@ loop-at-preserved c =
     let ends : c.loop-at.section_end ≡ after_section (map read_paragraph (drop c.loop-at.at c.args.paragraphs.now)) = c.loop-at.invariant.ends in
     record {
       found = λ name.
-        ap (λ (f : List ℕ → Option Label). f name) c.in_ok-put.ensures
-        ∙ ap (λ (n : List ℕ). with_value (held c.loop-at.table) n (record { left = length c.args.paragraphs.now - (c.loop-at.at - 1); after = c.range_end-after.result }) name) c.items.ensures
-        ∙ more_found c.args.paragraphs.now c.loop-at.at c.index-paragraphs-at.result (omega arith) c.loop-at.invariant.within c.index-paragraphs-at.is
+          ap (λ (f : List ℕ → Option Label). f name) c.in_ok-put.ensures
+          ∙ ap (λ (n : List ℕ). with_value (held c.loop-at.table) n (record { left = length c.args.paragraphs.now - (c.loop-at.at - 1); after = c.range_end-after.result }) name) c.items.ensures
+          ∙ more_found c.args.paragraphs.now c.loop-at.at c.index-paragraphs-at.result (omega arith) c.loop-at.invariant.within c.index-paragraphs-at.is
           (held c.loop-at.table) (length c.args.paragraphs.now - (c.loop-at.at - 1)) c.loop-at.section_end c.range_end-after.result refl ends c.range_end-after.ensures found name;
       ends = c.section_end_before-section_end.ensures
-        ∙ more_ends c.args.paragraphs.now c.loop-at.at c.index-paragraphs-at.result (omega arith) c.loop-at.invariant.within c.index-paragraphs-at.is
+          ∙ more_ends c.args.paragraphs.now c.loop-at.at c.index-paragraphs-at.result (omega arith) c.loop-at.invariant.within c.index-paragraphs-at.is
           (length c.args.paragraphs.now - (c.loop-at.at - 1)) c.loop-at.section_end refl ends;
-      within = omega arith }
+      within = omega arith;
+    }

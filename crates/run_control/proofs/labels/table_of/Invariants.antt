@@ -9,7 +9,8 @@ abbrev pub invariant-loop-at : goal.invariant-loop-at
 invariant-loop-at l = record {
   found : (name : List ℕ) → held l.table name ≡ label_of name (map read_paragraph (drop l.at l.paragraphs));
   ends : l.section_end ≡ after_section (map read_paragraph (drop l.at l.paragraphs));
-  within : l.at ≤ length l.paragraphs }
+  within : l.at ≤ length l.paragraphs;
+}
 
 abbrev pub decreases-loop-at : goal.decreases-loop-at
 decreases-loop-at l = l.at

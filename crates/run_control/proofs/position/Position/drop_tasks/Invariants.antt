@@ -7,7 +7,8 @@ abbrev pub invariant-loop-frame : goal.invariant-loop-frame
 invariant-loop-frame l = record {
   frames : frames_of l.self ≡ frames_of l.fn.self;
   sentences : l.self.sentences ≡ l.fn.self.sentences;
-  paragraphs : l.self.paragraphs ≡ l.fn.self.paragraphs }
+  paragraphs : l.self.paragraphs ≡ l.fn.self.paragraphs;
+}
 
 abbrev pub decreases-loop-frame : goal.decreases-loop-frame
 decreases-loop-frame l = entries_work l.self.entries.items

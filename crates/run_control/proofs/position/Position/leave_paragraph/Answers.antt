@@ -19,6 +19,7 @@ less p q f entries sentences paragraphs = rw (entries, sentences, paragraphs) (o
 
 pub returns-then-frame-self : goal.returns-then-frame-self
 returns-then-frame-self c =
-    rw c.in-Some.is
-    (back c.args.self.now c.go_back.new.self c.in-Some.frame c.requires.sentences c.if-frame-self.true c.go_back.ensures.entries c.go_back.ensures.sentences c.go_back.ensures.paragraphs,
-     less c.args.self.now c.go_back.new.self c.in-Some.frame c.go_back.ensures.entries c.go_back.ensures.sentences c.go_back.ensures.paragraphs)
+    rw c.in-Some.is (
+      back c.args.self.now c.go_back.new.self c.in-Some.frame c.requires.sentences c.if-frame-self.true c.go_back.ensures.entries c.go_back.ensures.sentences c.go_back.ensures.paragraphs,
+      less c.args.self.now c.go_back.new.self c.in-Some.frame c.go_back.ensures.entries c.go_back.ensures.sentences c.go_back.ensures.paragraphs,
+    )

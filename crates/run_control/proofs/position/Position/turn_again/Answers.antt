@@ -15,5 +15,5 @@ pub returns-in_ok-turn-in_default : goal.returns-in_ok-turn-in_default
 returns-in_ok-turn-in_default c = λ program day w same.
     times_more program day (point_of c.args.self.now) (frames_of c.args.self.now) w (read_id c.args.id) (read_body c.args.what) c.args.left (omega arith)
     ∙ turn_pushed program day (read_body c.args.what) (Turn (read_id c.args.id) (read_body c.args.what) (c.args.left - 1) ∷ []) c.args.self.now c.push.new.self w
-      c.in_ok-push-in_default.ensures.held c.in_ok-push-in_default.ensures.sentences c.in_ok-push-in_default.ensures.paragraphs
+    c.in_ok-push-in_default.ensures.held c.in_ok-push-in_default.ensures.sentences c.in_ok-push-in_default.ensures.paragraphs
     ∙ c.in_ok-turn-in_default.ensures program day w same
