@@ -5,7 +5,7 @@ use Rattle.cobol_syntax.specs.declared.program.Paragraph.{Paragraph}
 use Rattle.cobol_syntax.specs.declared.program.Sentence.{Sentence}
 use Rattle.tree_reading.specs.Reading.{read_sentence, read_paragraph}
 use Rattle.program_meaning.specs.Tree as tree
-use Rattle.program_meaning.specs.State.{Program, Loop, Task, Turn, Test, Point, Frame, World, State, point, on}
+use Rattle.program_meaning.specs.State.{Program, Loop, Task, Turn, Test, Point, Frame, World, point, on}
 use Rattle.program_meaning.specs.Step.{Calendar, turn, times_turn, until_turn, begun, advanced, further, entered}
 use Rattle.run_control.specs.declared.position.Position.{Position}
 use Rattle.run_control.specs.Held.{Held, held, tasks_of, frames_of, point_of}

@@ -1,5 +1,5 @@
 -- Where a run goes on from the ends of lists, sentences and paragraphs.
-use Rattle.std.proofs.Common.{◌≡◌, ◌≤◌, ℕ, Bool, get_or, take, drop, ◌-◌, arith, true, false, cond, ◌==◌, List, [], ◌∷◌, length, map, refl, ap, sym, ◌∙◌}
+use Rattle.std.proofs.Common.{◌≡◌, ◌≤◌, ℕ, Bool, get_or, take, drop, ◌-◌, arith, cond, ◌==◌, List, [], ◌∷◌, length, map, refl, ap, sym, ◌∙◌}
 use Rattle.std.proofs.lemmas.List.{length-map, take_rest}
 use denote.Ref.{Bor}
 use Rattle.std.proofs.lemmas.Bool.{eq-eqb, ne_eqb}
@@ -9,7 +9,7 @@ use Rattle.cobol_syntax.specs.declared.program.Sentence.{Sentence}
 use Rattle.tree_reading.specs.Reading.{read_statement, read_statements, read_sentence, read_paragraph}
 use Rattle.program_meaning.specs.Tree as tree
 use Rattle.program_meaning.specs.Step.{step_at}
-use Rattle.program_meaning.specs.State.{Task, Do, Frame, Next, before, point, settle, at_first, first_of, fall, at_end}
+use Rattle.program_meaning.specs.State.{Task, Do, Frame, Next, before, point, settle, at_end}
 use Rattle.run_control.specs.declared.task.Task as task
 use Rattle.run_control.specs.declared.position.Position.{Position}
 use Rattle.run_control.specs.Held.{Held, held, tasks_of, frames_of, next_with_list, next_of, task_before}

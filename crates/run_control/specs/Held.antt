@@ -1,5 +1,5 @@
 -- What the code holds of a running program, as the tasks, the point and the open PERFORMs of the meaning of programs.
-use Rattle.std.specs.Prelude.{◌≡◌, ℕ, List, [], ◌∷◌, map, Option, Some, None, MatchOption}
+use Rattle.std.specs.Prelude.{List, [], ◌∷◌, map, Option, Some, None}
 use Rattle.std.specs.List.{fold}
 use denote.Ref.{Bor}
 use Rattle.cobol_syntax.specs.declared.statement.Statement.{Statement}
@@ -8,7 +8,6 @@ use Rattle.tree_reading.specs.Reading.{read_statements, read_statement, read_sen
 use Rattle.program_meaning.specs.Tree as tree
 use Rattle.program_meaning.specs.State.{Program, Point, Next, World, State, Stopped, before, point, settle, on}
 use Rattle.program_meaning.specs.State as state
-use Rattle.program_meaning.specs.Step.{Calendar, step, act_task}
 use Rattle.run_control.specs.declared.task.Body.{Body}
 use Rattle.run_control.specs.declared.task.Body.TheVariants as b
 use Rattle.run_control.specs.declared.task.Loop.{Loop}

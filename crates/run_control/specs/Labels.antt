@@ -1,5 +1,5 @@
 -- Paragraphs and sections by their names.
-use Rattle.std.specs.Prelude.{ℕ, ◌+◌, List, [], ◌∷◌, length, Option, Some, None, if◌then◌else◌}
+use Rattle.std.specs.Prelude.{List, [], ◌∷◌, length, Option, Some, None, if◌then◌else◌}
 use Rattle.std.specs.Str.{bytes_eq}
 use Rattle.program_meaning.specs.Tree.{Name, Paragraph}
 use Rattle.program_meaning.specs.State.{after_range}

@@ -2,7 +2,6 @@
 use Rattle.std.specs.Prelude.{ℕ, ◌+◌, ◌*◌, List, [], ◌∷◌, length, Option, Some, None}
 use Rattle.std.specs.List.{fold}
 use Rattle.cobol_syntax.specs.declared.program.Paragraph.{Paragraph}
-use Rattle.cobol_syntax.specs.declared.program.Sentence.{Sentence}
 use Rattle.run_control.specs.declared.task.Frame.{Frame}
 use Rattle.run_control.specs.declared.task.Entry.{Entry}
 use Rattle.run_control.specs.declared.task.Entry.TheVariants as e

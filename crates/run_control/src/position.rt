@@ -1,11 +1,11 @@
 ghost use Rattle.std.specs.Prelude.{◌≡◌, ◌<◌, ◌+◌, ◌∷◌, [], ℕ, OnOk, IfOk, MatchOption, IfSome, IfNone, length, map};
 ghost use Rattle.cobol_syntax.specs.declared.program.Paragraph.{Paragraph};
-ghost use Rattle.program_meaning.specs.State.{at_end, at_front, on};
+ghost use Rattle.program_meaning.specs.State.{at_end, at_front};
 ghost use Rattle.tree_reading.specs.Reading.{read_sentence, read_paragraph};
 ghost use Rattle.run_control.specs.Held.{held, with_entry, nothing_held, tasks_of, frames_of, point_of, held_with, next_of, next_with, next_with_list, state_at, task_before};
 ghost use Rattle.run_control.specs.Work.{work, entry_work, entries_work, frame_work};
 ghost use Rattle.run_control.specs.Moves.{HasMoved, Stays};
-ghost use Rattle.run_control.specs.Program.{LeadsIn, Stops, Steps};
+ghost use Rattle.run_control.specs.Program.{Begins, Stops, Steps};
 
 use crate::labels::Labels;
 use crate::task::{Entry, Frame, Task};
@@ -46,7 +46,7 @@ enum Move<'a> {
 impl<'a> Position<'a> {
     /// The first statement of a program, with no open PERFORM.
     pub fn start(alloc: Global, labels: &Labels<'a>) -> Position<'a>
-        ensures { LeadsIn labels.now result (λ program day w. on [] (at_front program.paragraphs) w) }
+        ensures { Begins labels.now result }
     {
         let mut position = Position {
             entries: Vec::new(alloc),

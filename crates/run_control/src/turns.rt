@@ -35,7 +35,7 @@ impl<'a> Position<'a> {
 
     /// A list of statements in front of what is left.
     pub fn begin(&mut self, list: &'a [Statement]) -> Result<(), Memory>
-        ensures { OnOk result (Leads self.new (λ program day w. begin program day (read_statements list.now) (point_of self.old) (frames_of self.old) w)) }
+        ensures { OnOk result (Leads self.old self.new (λ program day. begin program day (read_statements list.now))) }
     {
         self.push(Entry::Rest(list))?;
         Ok(())
@@ -43,7 +43,7 @@ impl<'a> Position<'a> {
 
     /// NEXT SENTENCE.
     pub fn next_sentence(&mut self) -> Result<(), Memory>
-        ensures { (id : Id) → OnOk result (Leads self.new (λ program day w. act program day id NextSentence (point_of self.old) (frames_of self.old) w)) }
+        ensures { (id : Id) → OnOk result (Leads self.old self.new (λ program day. act program day id NextSentence)) }
     {
         self.drop_tasks()?;
         Ok(())
@@ -51,7 +51,7 @@ impl<'a> Position<'a> {
 
     /// GO TO.
     pub fn go_to(&mut self, labels: &Labels<'a>, name: &[u8]) -> Result<(), Memory>
-        ensures { (id : Id) → OnOk result (LeadsIn labels.now self.new (λ program day w. act program day id (GoTo name.now) (point_of self.old) (frames_of self.old) w)) }
+        ensures { (id : Id) → OnOk result (LeadsIn labels.now self.old self.new (λ program day. act program day id (GoTo name.now))) }
     {
         self.drop_tasks()?;
         self.stand_before(labels.paragraphs_from(name));
@@ -60,7 +60,7 @@ impl<'a> Position<'a> {
 
     /// A turn of what is performed: PERFORM without a phrase, or a turn under TIMES or UNTIL.
     pub fn turn(&mut self, labels: &Labels<'a>, what: Body<'a>) -> Result<(), Memory>
-        ensures { OnOk result (LeadsIn labels.now self.new (λ program day w. turn program day (read_body what.entry) [] (point_of self.old) (frames_of self.old) w)) }
+        ensures { OnOk result (LeadsIn labels.now self.old self.new (λ program day. turn program day (read_body what.entry) [])) }
     {
         match what {
             Body::Inline(list) => {
@@ -97,7 +97,7 @@ impl<'a> Position<'a> {
         what: Body<'a>,
         left: u128,
     ) -> Result<(), Memory>
-        ensures { OnOk result (LeadsIn labels.now self.new (λ program day w. times_turn program day (read_id id) (read_body what.entry) left (point_of self.old) (frames_of self.old) w)) }
+        ensures { OnOk result (LeadsIn labels.now self.old self.new (λ program day. times_turn program day (read_id id) (read_body what.entry) left)) }
     {
         match left {
             0 => Ok(()),
@@ -122,7 +122,7 @@ impl<'a> Position<'a> {
         what: Body<'a>,
         count: i128,
     ) -> Result<(), Memory>
-        ensures { OnOk result (LeadsIn labels.now self.new (λ program day w. times_turn program day (read_id id) (read_body what.entry) (turns count) (point_of self.old) (frames_of self.old) w)) }
+        ensures { OnOk result (LeadsIn labels.now self.old self.new (λ program day. times_turn program day (read_id id) (read_body what.entry) (turns count))) }
     {
         self.turn_again(labels, id, what, turns_of(count))?;
         Ok(())
@@ -130,7 +130,7 @@ impl<'a> Position<'a> {
 
     /// PERFORM with UNTIL.
     pub fn perform_until(&mut self, labels: &Labels<'a>, perform: Loop<'a>) -> Result<(), Memory>
-        ensures { OnOk result (LeadsIn labels.now self.new (λ program day w. entered program day (read_loop perform.entry) (read_loop perform.entry).vary (point_of self.old) (frames_of self.old) w)) }
+        ensures { OnOk result (LeadsIn labels.now self.old self.new (λ program day. entered program day (read_loop perform.entry) (read_loop perform.entry).vary)) }
     {
         match perform.vary {
             None => {
@@ -146,7 +146,7 @@ impl<'a> Position<'a> {
 
     /// After the item of VARYING is set.
     pub fn after_setting(&mut self, labels: &Labels<'a>, perform: Loop<'a>) -> Result<(), Memory>
-        ensures { OnOk result (LeadsIn labels.now self.new (λ program day w. begun program day (read_loop perform.entry) (point_of self.old) (frames_of self.old) w)) }
+        ensures { OnOk result (LeadsIn labels.now self.old self.new (λ program day. begun program day (read_loop perform.entry))) }
     {
         if perform.after {
             self.turn_until(labels, perform)?;
@@ -159,7 +159,7 @@ impl<'a> Position<'a> {
 
     /// After the item of VARYING is stepped.
     pub fn after_stepping(&mut self, labels: &Labels<'a>, perform: Loop<'a>) -> Result<(), Memory>
-        ensures { OnOk result (LeadsIn labels.now self.new (λ program day w. advanced program day (read_loop perform.entry) (point_of self.old) (frames_of self.old) w)) }
+        ensures { OnOk result (LeadsIn labels.now self.old self.new (λ program day. advanced program day (read_loop perform.entry))) }
     {
         if perform.after {
             self.turn_until(labels, perform)?;
@@ -176,7 +176,7 @@ impl<'a> Position<'a> {
         perform: Loop<'a>,
         holds: bool,
     ) -> Result<(), Memory>
-        ensures { OnOk result (LeadsIn labels.now self.new (λ program day w. tested program day (read_loop perform.entry) holds (point_of self.old) (frames_of self.old) w)) }
+        ensures { OnOk result (LeadsIn labels.now self.old self.new (λ program day. tested program day (read_loop perform.entry) holds)) }
     {
         if holds {
             Ok(())
@@ -188,7 +188,7 @@ impl<'a> Position<'a> {
 
     /// A further turn under UNTIL: after a test behind the turn the stepping comes first.
     fn further_turn(&mut self, labels: &Labels<'a>, perform: Loop<'a>) -> Result<(), Memory>
-        ensures { OnOk result (LeadsIn labels.now self.new (λ program day w. further program day (read_loop perform.entry) perform.entry.after (read_loop perform.entry).vary (point_of self.old) (frames_of self.old) w)) }
+        ensures { OnOk result (LeadsIn labels.now self.old self.new (λ program day. further program day (read_loop perform.entry) perform.entry.after (read_loop perform.entry).vary)) }
     {
         if perform.after {
             match perform.vary {
@@ -209,7 +209,7 @@ impl<'a> Position<'a> {
 
     /// A turn under UNTIL, and what follows it.
     fn turn_until(&mut self, labels: &Labels<'a>, perform: Loop<'a>) -> Result<(), Memory>
-        ensures { OnOk result (LeadsIn labels.now self.new (λ program day w. until_turn program day (read_loop perform.entry) (point_of self.old) (frames_of self.old) w)) }
+        ensures { OnOk result (LeadsIn labels.now self.old self.new (λ program day. until_turn program day (read_loop perform.entry))) }
     {
         self.push_after_turn(perform)?;
         self.turn(labels, perform.what)?;

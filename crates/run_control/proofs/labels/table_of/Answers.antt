@@ -1,4 +1,4 @@
-use Rattle.std.proofs.Common.{◌≡◌, ℕ, List, Option, [], length, map, drop, ◌-◌, refl, ap, sym, ◌∙◌, arith}
+use Rattle.std.proofs.Common.{◌≡◌, ℕ, List, Option, length, map, drop, ◌-◌, refl, ap, sym, ◌∙◌, arith}
 use Rattle.std.proofs.Math.Seq.{drop-length}
 use Rattle.cobol_syntax.specs.declared.program.Paragraph.{Paragraph}
 use Rattle.tree_reading.specs.Reading.{read_paragraph}

@@ -1,8 +1,5 @@
-use Rattle.std.proofs.Common.{ap, sym, ◌∙◌, ◌∷◌, [], ◌-◌, arith}
-use Rattle.tree_reading.specs.Reading.{read_id}
-use Rattle.program_meaning.specs.State.{Turn}
-use Rattle.program_meaning.specs.Step.{after_turn}
-use Rattle.run_control.specs.Held.{point_of, frames_of, read_body, read_loop, read_vary_at}
+use Rattle.std.proofs.Common.{◌∙◌}
+use Rattle.run_control.specs.Held.{point_of, frames_of, read_loop}
 use Rattle.run_control.proofs.Further.{begun_after}
 use Rattle.run_control.proofs.position.Position.after_setting.Goals as goal
 

@@ -1,10 +1,8 @@
-use Rattle.std.proofs.Common.{rules, arith, ◌≡◌, ◌<◌, ◌+◌, ◌*◌, ℕ, Option, Some, List, [], length, map, ap, sym, ◌∙◌}
+use Rattle.std.proofs.Common.{arith, ◌≡◌, ◌<◌, ◌+◌, Some, [], length}
 use Rattle.run_control.specs.declared.task.Frame.{Frame}
 use Rattle.run_control.specs.declared.position.Position.{Position}
-use Rattle.run_control.specs.Held.{held, next_of, next_with, frames_of, tasks_of, read_frame}
-use Rattle.run_control.specs.Work.{work, entries_work, frame_work, paragraphs_work}
-use Rattle.tree_reading.specs.Reading.{read_sentence, read_paragraph}
-use Rattle.program_meaning.specs.State.{point, settle, Next}
+use Rattle.run_control.specs.Held.{next_of, next_with, frames_of, tasks_of, read_frame}
+use Rattle.run_control.specs.Work.{work, frame_work}
 use Rattle.run_control.proofs.Settled.{of_range}
 use Rattle.run_control.proofs.position.Position.leave_paragraph.Goals as goal
 
