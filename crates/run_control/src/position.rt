@@ -225,7 +225,8 @@ impl<'a> Position<'a> {
     /// Takes the next step's task off. `None` is the end of the text, where the step is a STOP RUN.
     #[tactic(auto, using(crate::proofs::Settled::of_step, crate::proofs::Settled::of_stop))]
     pub fn next_task(&mut self) -> Result<Option<Task<'a>>, Memory>
-        ensures { IfOk result (λ found. MatchOption found (Stops self.old) (λ task. Steps self.old task self.new)) }
+        ensures task { IfOk result (λ found. MatchOption found (next_of self.old ≡ at_end) (λ task. next_of self.old ≡ task_before task self.new)) }
+        ensures step { IfOk result (λ found. MatchOption found (Stops self.old) (λ task. Steps self.old task self.new)) }
     {
         let found = self.find_task()?;
         Ok(found)

@@ -33,7 +33,7 @@ impl<'a> Position<'a> {
         }
     }
 
-    /// A list of statements in front of what is left.
+    /// Goes on with a list of statements, and then with what is left: a branch of IF, or the list of a phrase.
     pub fn begin(&mut self, list: &'a [Statement]) -> Result<(), Memory>
         ensures { OnOk result (Leads self.old self.new (λ program day. begin program day (read_statements list.now))) }
     {
@@ -41,7 +41,7 @@ impl<'a> Position<'a> {
         Ok(())
     }
 
-    /// NEXT SENTENCE.
+    /// NEXT SENTENCE: what is left of the sentence is dropped, inline PERFORMs included.
     pub fn next_sentence(&mut self) -> Result<(), Memory>
         ensures { (id : Id) → OnOk result (Leads self.old self.new (λ program day. act program day id NextSentence)) }
     {
@@ -49,7 +49,7 @@ impl<'a> Position<'a> {
         Ok(())
     }
 
-    /// GO TO.
+    /// GO TO: what is left of the paragraph is dropped, and the open PERFORMs stay open.
     pub fn go_to(&mut self, labels: &Labels<'a>, name: &[u8]) -> Result<(), Memory>
         ensures { (id : Id) → OnOk result (LeadsIn labels.now self.old self.new (λ program day. act program day id (GoTo name.now))) }
     {
@@ -58,7 +58,7 @@ impl<'a> Position<'a> {
         Ok(())
     }
 
-    /// A turn of what is performed: PERFORM without a phrase, or a turn under TIMES or UNTIL.
+    /// A turn of what is performed, as a PERFORM without a phrase makes one.
     pub fn turn(&mut self, labels: &Labels<'a>, what: Body<'a>) -> Result<(), Memory>
         ensures { OnOk result (LeadsIn labels.now self.old self.new (λ program day. turn program day (read_body what.entry) [])) }
     {
@@ -89,7 +89,7 @@ impl<'a> Position<'a> {
         Ok(())
     }
 
-    /// A turn under TIMES, with `left` turns left with this one.
+    /// A turn under TIMES, where `left` turns are left with this one; of none there is no turn.
     pub fn turn_again(
         &mut self,
         labels: &Labels<'a>,
@@ -114,7 +114,7 @@ impl<'a> Position<'a> {
         }
     }
 
-    /// PERFORM with TIMES, where the count is this number.
+    /// PERFORM with TIMES, where its operand has this number: one below 1 makes no turn.
     pub fn perform_times(
         &mut self,
         labels: &Labels<'a>,
@@ -128,7 +128,7 @@ impl<'a> Position<'a> {
         Ok(())
     }
 
-    /// PERFORM with UNTIL.
+    /// PERFORM with UNTIL: first the setting of VARYING, or else what follows it.
     pub fn perform_until(&mut self, labels: &Labels<'a>, perform: Loop<'a>) -> Result<(), Memory>
         ensures { OnOk result (LeadsIn labels.now self.old self.new (λ program day. entered program day (read_loop perform.entry) (read_loop perform.entry).vary)) }
     {
@@ -144,7 +144,7 @@ impl<'a> Position<'a> {
         }
     }
 
-    /// After the item of VARYING is set.
+    /// Goes on after the item of VARYING is set: by the first turn where the test stands behind it, else by the test.
     pub fn after_setting(&mut self, labels: &Labels<'a>, perform: Loop<'a>) -> Result<(), Memory>
         ensures { OnOk result (LeadsIn labels.now self.old self.new (λ program day. begun program day (read_loop perform.entry))) }
     {
@@ -157,7 +157,7 @@ impl<'a> Position<'a> {
         }
     }
 
-    /// After the item of VARYING is stepped.
+    /// Goes on after the item of VARYING is stepped: by a turn where the test was before the stepping.
     pub fn after_stepping(&mut self, labels: &Labels<'a>, perform: Loop<'a>) -> Result<(), Memory>
         ensures { OnOk result (LeadsIn labels.now self.old self.new (λ program day. advanced program day (read_loop perform.entry))) }
     {
@@ -169,7 +169,7 @@ impl<'a> Position<'a> {
         }
     }
 
-    /// After the test of UNTIL, where the condition holds or not.
+    /// Goes on after the condition of UNTIL was tested, which holds or not.
     pub fn after_test(
         &mut self,
         labels: &Labels<'a>,
