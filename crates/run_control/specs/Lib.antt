@@ -1,0 +1,5 @@
+pub mod Held
+pub mod Work
+pub mod Moves
+pub mod Labels
+pub mod Program
