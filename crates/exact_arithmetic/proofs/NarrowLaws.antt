@@ -1,10 +1,10 @@
 -- Laws of numbers of 128 bits.
-use Rattle.std.proofs.Common.{◌≡◌, ◌≢◌, ℕ, zero, suc, ◌+◌, ◌-◌, ◌*◌, ◌^◌, ◌<◌, ◌≤◌, Bool, true, false, cond, ◌&&◌, ℤ, pos, negsuc, neg_ℤ, refl, sym, ap, ◌∙◌, inl, inr, arith}
+use Rattle.std.proofs.Common.{◌≡◌, ◌≢◌, ℕ, zero, suc, ◌-◌, ◌*◌, ◌^◌, ◌<◌, ◌≤◌, Bool, true, false, cond, ◌&&◌, ℤ, pos, negsuc, neg_ℤ, refl, ap, ◌∙◌, arith}
 use Rattle.std.specs.Prelude.{unsigned_abs, ◌*ℤ◌, int_lt, int_le}
 use Rattle.std.proofs.Math.Nat.{pow-le-pow_right, mul-le-mul_right, pow-zero, pow-suc}
-use Rattle.std.proofs.lemmas.Bool.{le-ltb, lt-leb, and_left, and_right, cond-false, cases_Bool, cond-true}
+use Rattle.std.proofs.lemmas.Bool.{le-ltb, lt-leb, and_left, and_right, cond-false}
 use Rattle.std.proofs.lemmas.Int.{unsigned_abs-mul}
-use Rattle.program_meaning.specs.Answer.{Answer, Gives, Fails, Wide}
+use Rattle.program_meaning.specs.Answer.{Gives, Fails, Wide}
 use Rattle.program_meaning.specs.Arithmetic.{narrow}
 
 pub ten_pos : (n : ℕ) → 0 < 10 ^ n
@@ -47,3 +47,9 @@ scaled_up_some z y digits some h none =
     let size : unsigned_abs y ≡ unsigned_abs z * 10 ^ digits = ap unsigned_abs (narrow_gives (z *ℤ pos (10 ^ digits)) y h) ∙ unsigned_abs-mul z (pos (10 ^ digits)) in
     let zero_size : unsigned_abs y ≡ 0 = ap unsigned_abs none in
     omega arith
+
+pub ten_at_least : (digits : ℕ) → 1 ≤ digits → 10 ≤ 10 ^ digits
+ten_at_least digits some = let power : 10 ^ 1 ≤ 10 ^ digits = pow-le-pow_right {n = 10} (omega arith) {i = 1} {j = digits} some in omega arith
+
+pub power_past_38 : (digits : ℕ) → 39 ≤ digits → 10 ^ 39 ≤ 10 ^ digits
+power_past_38 digits over = pow-le-pow_right {n = 10} (omega arith) {i = 39} {j = digits} over
