@@ -16,3 +16,6 @@ pub use comparing::{cmp_repeated, number_cmp, repeated_cmp, text_cmp};
 pub use fault::ArithmeticFault;
 pub use outcome::{Outcome, by_phrase, division_outcome, remainder, simple_outcome};
 pub use result::{at_scale, too_big};
+
+#[cfg(test)]
+mod tests;
