@@ -1,0 +1,34 @@
+-- What a call answers, as the meaning of programs has it.
+use Rattle.std.specs.Prelude.{ℤ, Result, Ok, Err}
+use Rattle.std.specs.declared.cmp.Ordering.{Ordering}
+use Rattle.decimal_bytes.specs.declared.form.Scaled.{Scaled}
+use Rattle.program_meaning.specs.Answer as meant
+use Rattle.program_meaning.specs.Answer.{Answer, Gives, Fails}
+use Rattle.program_meaning.specs.Arithmetic as exact
+use Rattle.number_bytes.specs.Held.{read_scaled}
+use Rattle.exact_arithmetic.specs.declared.fault.ArithmeticFault.{ArithmeticFault}
+use Rattle.exact_arithmetic.specs.declared.fault.ArithmeticFault.TheVariants.{Wide, Zero}
+use Rattle.exact_arithmetic.specs.declared.outcome.Outcome.{Outcome}
+
+abbrev pub fault_of : ArithmeticFault → meant.Fault
+fault_of Wide = meant.Wide
+fault_of Zero = meant.Zero
+
+abbrev pub number_answer : Result ℤ ArithmeticFault → Answer ℤ
+number_answer (Ok n) = Gives n
+number_answer (Err e) = Fails (fault_of e)
+
+abbrev pub scaled_answer : Result Scaled ArithmeticFault → Answer exact.Scaled
+scaled_answer (Ok x) = Gives (read_scaled x)
+scaled_answer (Err e) = Fails (fault_of e)
+
+abbrev pub order_answer : Result Ordering ArithmeticFault → Answer Ordering
+order_answer (Ok o) = Gives o
+order_answer (Err e) = Fails (fault_of e)
+
+abbrev pub read_outcome : Outcome → exact.Outcome
+read_outcome o = exact.outcome o.is_error o.result o.rest
+
+abbrev pub outcome_answer : Result Outcome ArithmeticFault → Answer exact.Outcome
+outcome_answer (Ok o) = Gives (read_outcome o)
+outcome_answer (Err e) = Fails (fault_of e)
