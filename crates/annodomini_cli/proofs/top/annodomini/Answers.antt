@@ -42,3 +42,10 @@ returns-in-Some-clause-label_one g c = λ source item is. same-form _ _ _ source
 
 pub returns-in-Some-clause-label : goal.returns-in-Some-clause-label
 returns-in-Some-clause-label g c = λ main is. absurd (one_form _ _ _ main c.in-Some.ensures.found is)
+
+pub returns-in-Some-label_of-clause-label : goal.returns-in-Some-label_of-clause-label
+returns-in-Some-label_of-clause-label g c =
+    λ main is. same-label _ _ main _ _ _ _ c.in-Some-label_of.ensures.found is c.report_labels.ensures.answer
+
+pub returns-in-None-label_of-clause-label_one : goal.returns-in-None-label_of-clause-label_one
+returns-in-None-label_of-clause-label_one g c = λ source item is. absurd (c.in-None.ensures.none source item is)
