@@ -1,0 +1,44 @@
+-- Resolved places that lie in the areas of their program, with all occurrences.
+use Rattle.std.specs.Prelude.{◌≡◌, ℕ, ◌+◌, ◌-◌, ◌*◌, ◌^◌, ◌<◌, ◌≤◌, List, [], ◌∷◌, Option, Some, None}
+use Rattle.std.specs.List.{AllByRecursion}
+use Rattle.y2k_base.specs.declared.place.Span.{Span}
+use Rattle.data_layout.specs.declared.item.Step.{Step}
+use Rattle.number_bytes.specs.Held.{number_length}
+use Rattle.storage_places.specs.declared.access.NumberItem.{NumberItem}
+use Rattle.storage_places.specs.declared.access.Bound.{Bound}
+use Rattle.storage_places.specs.declared.access.Bound.TheVariants as bound
+use Rattle.storage_places.specs.declared.access.Cut.{Cut}
+use Rattle.storage_places.specs.declared.access.Access.{Access}
+use Rattle.storage_places.specs.Held.{IsWithin}
+
+-- how far the last occurrence begins behind the first
+abbrev pub farthest : List Step → ℕ
+farthest [] = 0
+farthest (s ∷ ss) = (s.count - 1) * s.size + farthest ss
+
+module _ (first : ℕ) (lengths : List ℕ) where
+  -- a number in the areas has 1 to 18 digits and as many bytes as its form says
+  pub record NumberFits (x : NumberItem) : Type 0 where
+    pub within : IsWithin first lengths x.span
+    pub some_digits : 1 ≤ x.form.digits
+    pub at_most_18 : x.form.digits ≤ 18
+    pub length : x.span.length ≡ number_length x.usage x.form
+
+  abbrev pub BoundFits : Bound → Type 0
+  BoundFits (bound.Literal n) = Unit {0}
+  BoundFits (bound.Number x) = NumberFits x
+
+  abbrev pub BoundIfFits : Option Bound → Type 0
+  BoundIfFits None = Unit {0}
+  BoundIfFits (Some b) = BoundFits b
+
+  abbrev pub CutFits : Option Cut → Type 0
+  CutFits None = Unit {0}
+  CutFits (Some c) = BoundFits c.start × BoundIfFits c.length
+
+  pub record Fits (a : Access) : Type 0 where
+    pub first_occurrence : IsWithin first lengths a.span
+    pub last_occurrence : IsWithin first lengths (record { area = a.span.area; offset = a.span.offset + farthest a.steps; length = a.span.length })
+    pub short : a.span.offset + farthest a.steps + a.span.length < 2 ^ 32
+    pub subs : AllByRecursion BoundFits a.subs
+    pub cut : CutFits a.cut

@@ -1,0 +1,14 @@
+//! The storage of a running program, and where its places are. Names are resolved once, to `Access`es; at each use
+//! of one its subscripts and its reference are read from the storage and checked.
+#![tactic(auto)]
+
+mod access;
+mod fault;
+mod reaching;
+mod resolving;
+mod storage;
+
+pub use access::{Access, Bound, Cut, NumberItem};
+pub use fault::RunFault;
+pub use resolving::resolve;
+pub use storage::Storage;

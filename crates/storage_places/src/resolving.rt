@@ -1,0 +1,158 @@
+ghost use Rattle.std.specs.Prelude.{◌≡◌, Some, IfOk, option_map};
+ghost use Rattle.data_layout.specs.Index.{IsReady};
+ghost use Rattle.layout_reading.specs.Told.{item_told};
+ghost use Rattle.operand_kinds.specs.Kinds as kinds;
+ghost use Rattle.storage_places.specs.Resolved as spec;
+ghost use Rattle.storage_places.specs.Resolved.{access_of};
+
+use crate::access::{Access, Bound, Cut, NumberItem};
+use cobol_syntax::{Part, Place, Sub};
+use data_layout::{Class, Found, Item, Layout};
+use operand_kinds::{Kind, kind_of_item};
+use std::alloc::Global;
+use y2k_base::{Bytes, List, Memory, Twin};
+
+/// A place with its names resolved. There is none where one of its names means no item, several things or a
+/// condition-name, or where the item of a subscript or a reference isn't a number.
+pub fn resolve(alloc: Global, layout: &Layout, place: &Place) -> Result<Option<Access>, Memory>
+    requires { IsReady layout.now }
+    ensures { IfOk result (λ access. access ≡ access_of layout.now place.now) }
+{
+    match item_named(layout, place.names.items()) {
+        Some(item) => access_to(alloc, layout, item, place),
+        None => Ok(None),
+    }
+}
+
+/// The item that a name means.
+fn item_named<'a>(layout: &'a Layout, names: &[Bytes]) -> Option<&'a Item>
+    requires { IsReady layout.now }
+    ensures { option_map (λ item. item.now) result ≡ spec.item_named layout.now names.now }
+{
+    match layout.find(names) {
+        Found::Item(number) => layout.items.items().get(number as usize),
+        Found::Named(_) => None,
+        Found::Unknown => None,
+        Found::Twice => None,
+    }
+}
+
+fn access_to(alloc: Global, layout: &Layout, item: &Item, place: &Place) -> Result<Option<Access>, Memory>
+    requires { IsReady layout.now }
+    ensures { IfOk result (λ access. access ≡ spec.access_if layout.now place.now (Some item.now)) }
+{
+    match bounds_of(alloc, layout, place.subs.items())? {
+        Some(subs) => access_with(alloc, item, &place.cut, subs, cut_of(layout, &place.cut)),
+        None => Ok(None),
+    }
+}
+
+fn access_with(
+    alloc: Global,
+    item: &Item,
+    part: &Option<Part>,
+    subs: List<Bound>,
+    cut: Option<Option<Cut>>,
+) -> Result<Option<Access>, Memory>
+    ensures { IfOk result (λ access. access ≡ spec.access_with item.now part.now (Some subs) cut) }
+{
+    match cut {
+        Some(cut) => Ok(Some(Access {
+            kind: kind_of_part(part, kind_of_item(item)),
+            picture: item.picture.twin(alloc)?,
+            span: item.span,
+            steps: item.steps.twin(alloc)?,
+            subs,
+            cut,
+        })),
+        None => Ok(None),
+    }
+}
+
+fn kind_of_part(part: &Option<Part>, whole: Kind) -> Kind
+    ensures { result ≡ kinds.kind_of_part part.now whole }
+{
+    match part {
+        None => whole,
+        Some(_) => Kind::Text,
+    }
+}
+
+fn bounds_of(alloc: Global, layout: &Layout, subs: &[Sub]) -> Result<Option<List<Bound>>, Memory>
+    requires { IsReady layout.now }
+    ensures { IfOk result (λ bounds. bounds ≡ spec.bounds_of layout.now subs.now) }
+{
+    let mut bounds = List::new(alloc);
+    let mut rest = subs;
+    while let [sub, more @ ..] = rest {
+        match bound_of(layout, sub) {
+            Some(bound) => bounds.push(bound)?,
+            None => return Ok(None),
+        }
+        rest = more;
+    }
+    Ok(Some(bounds))
+}
+
+fn cut_of(layout: &Layout, cut: &Option<Part>) -> Option<Option<Cut>>
+    requires { IsReady layout.now }
+    ensures { result ≡ spec.cut_of layout.now cut.now }
+{
+    match cut {
+        None => Some(None),
+        Some(part) => match bound_of(layout, &part.start) {
+            Some(start) => cut_with(start, length_of(layout, &part.length)),
+            None => None,
+        },
+    }
+}
+
+fn cut_with(start: Bound, length: Option<Option<Bound>>) -> Option<Option<Cut>>
+    ensures { result ≡ spec.cut_with (Some start) length }
+{
+    match length {
+        Some(length) => Some(Some(Cut { start, length })),
+        None => None,
+    }
+}
+
+fn length_of(layout: &Layout, length: &Option<Sub>) -> Option<Option<Bound>>
+    requires { IsReady layout.now }
+    ensures { result ≡ spec.length_of layout.now length.now }
+{
+    match length {
+        None => Some(None),
+        Some(sub) => match bound_of(layout, sub) {
+            Some(bound) => Some(Some(bound)),
+            None => None,
+        },
+    }
+}
+
+fn bound_of(layout: &Layout, sub: &Sub) -> Option<Bound>
+    requires { IsReady layout.now }
+    ensures { result ≡ spec.bound_of layout.now sub.now }
+{
+    match sub {
+        Sub::Number { value, at: _ } => Some(Bound::Literal(*value)),
+        Sub::Name(names) => match item_named(layout, names.items()) {
+            Some(item) => bound_by(item),
+            None => None,
+        },
+    }
+}
+
+fn bound_by(item: &Item) -> Option<Bound>
+    ensures { result ≡ spec.bound_by item.now.class item.now }
+{
+    match item.class {
+        Class::Group => None,
+        Class::Text => None,
+        Class::Edited => None,
+        Class::Number => Some(Bound::Number(NumberItem {
+            span: item.span,
+            usage: item.usage,
+            form: item.form,
+        })),
+    }
+}
