@@ -1,0 +1,54 @@
+-- What a resolved place stands for, and what resolving asks of names.
+use Rattle.std.specs.Prelude.{◌≡◌, ◌≢◌, ℕ, List, [], ◌∷◌, Option, Some, None}
+use Rattle.std.specs.List.{AllByRecursion}
+use Rattle.y2k_base.specs.declared.place.Span.{Span}
+use Rattle.cobol_syntax.specs.declared.place.Place.{Place}
+use Rattle.cobol_syntax.specs.declared.place.Part.{Part}
+use Rattle.cobol_syntax.specs.declared.place.Sub.{Sub}
+use Rattle.cobol_syntax.specs.declared.place.Sub.TheVariants as sub
+use Rattle.cobol_syntax.specs.declared.program.Program.{Program}
+use Rattle.data_layout.specs.declared.item.Layout.{Layout}
+use Rattle.program_meaning.specs.Answer.{Gives, and_then}
+use Rattle.program_meaning.specs.Layout as meant
+use Rattle.program_meaning.specs.Storage.{Storage, View, view, kind_of}
+use Rattle.program_meaning.specs.Tree as tree
+use Rattle.tree_reading.specs.Reading.{read_place}
+use Rattle.layout_reading.specs.Names.{unnamed}
+use Rattle.layout_reading.specs.Reading.{read_layout, read_span, first_area}
+use Rattle.storage_places.specs.declared.access.Access.{Access}
+use Rattle.storage_places.specs.Reached.{access_kind, span_at}
+
+-- the bytes of a resolved place with what it is taken as
+abbrev pub view_with : ℕ → Access → Span → View
+view_with first a span = record { kind = access_kind a; span = read_span first span }
+
+-- a resolved place stands for a place: it is taken as the same, and whatever the storage holds it is at the same bytes
+pub record IsAccess (first : ℕ) (layout : meant.Layout) (place : tree.Place) (a : Access) : Type 0 where
+  pub kind : kind_of layout place ≡ access_kind a
+  pub view : (store : Storage) → view layout store place ≡ and_then (span_at first store a) (λ span. Gives (view_with first a span))
+
+-- the same in the layout of any program
+abbrev pub StandsFor : Layout → Place → Access → Type 0
+StandsFor l place a = (program : Program) → IsAccess (first_area l.areas) (read_layout program l) (read_place place) a
+
+-- names are bytes, so none is that which the meaning gives FILLER
+abbrev pub IsWord : List (List ℕ) → Type 0
+IsWord [] = Unit {0}
+IsWord (name ∷ qualifiers) = name ≢ unnamed
+
+abbrev pub SubIsWord : Sub → Type 0
+SubIsWord (sub.Number value at) = Unit {0}
+SubIsWord (sub.Name names) = IsWord names
+
+abbrev pub LengthIsWord : Option Sub → Type 0
+LengthIsWord None = Unit {0}
+LengthIsWord (Some s) = SubIsWord s
+
+abbrev pub CutIsWord : Option Part → Type 0
+CutIsWord None = Unit {0}
+CutIsWord (Some p) = SubIsWord p.start × LengthIsWord p.length
+
+pub record AreWords (place : Place) : Type 0 where
+  pub own : IsWord place.names
+  pub subs : AllByRecursion SubIsWord place.subs
+  pub cut : CutIsWord place.cut
