@@ -1,6 +1,6 @@
 -- A place that is resolved is at the same bytes as the place that it stands for.
 use Rattle.std.proofs.Common.{◌≡◌, ◌≢◌, ℕ, zero, suc, ◌+◌, ◌-◌, ◌*◌, List, [], ◌∷◌, map, refl, sym, ap, ◌∙◌, subst, Option, Some, None, ℤ, pos}
-use Rattle.std.specs.Prelude.{slice_get}
+use Rattle.std.specs.Prelude.{slice_get, IfOk, IfSome, Result, Ok, Err}
 use Rattle.std.specs.List.{AllByRecursion}
 use Rattle.std.proofs.lemmas.Option.{none-some}
 use Rattle.y2k_base.specs.declared.picture.Picture.{Picture}
@@ -70,6 +70,12 @@ module _ (program : Program) (l : Layout) (ids : AreNumbered (first_area l.areas
   item-named [] item word is = absurd (none-some item is)
   item-named (name ∷ qs) item word is = by-meaning name qs word item (meaning l (name ∷ qs)) refl is
 
+kind-means : (c : Class) (usage : Usage) (form : NumForm) (picture : Option Picture) → kind_by c usage form picture ≡ kind_with (operand.kind_of c usage form) picture
+kind-means class.Group usage form picture = refl
+kind-means class.Text usage form picture = refl
+kind-means class.Edited usage form picture = refl
+kind-means class.Number usage form picture = refl
+
 -- the bounds of several subscripts
 record BothBounds (l : Layout) (s : Sub) (ss : List Sub) (bs : List Bound) : Type 0 where
   one : Bound
@@ -129,16 +135,130 @@ module _ (program : Program) (l : Layout) (ids : AreNumbered (first_area l.areas
       subst (λ (bs : List Bound). occurrence (read_layout program l) store (map read_step steps) (map read_sub (s ∷ ss)) o ≡ occurrence_at (first_area l.areas) store steps bs o) (sym both.all)
       (one-bound s ss both.one both.more steps o (bound-means s both.one words.0 both.first) (λ steps o. occurrence-means ss both.more steps o words.1 both.others))
 
-  -- a reference from a start that is read
-  text_view : Span → View
-  text_view span = record { kind = kind.Text; span = read_span (first_area l.areas) span }
+  -- a text of an item, by how far it begins behind an offset and how many bytes it has
+  abbrev text_behind : Span → ℕ → ℕ × ℕ → Answer View
+  text_behind span o r = Gives (record { kind = kind.Text; span = record { area = span.area.0 - first_area l.areas; start = o + r.0; count = r.1 } })
 
+  abbrev text_at : Span → Answer View
+  text_at span = Gives (record { kind = kind.Text; span = read_span (first_area l.areas) span })
+
+  to-the-end : (span : Span) (o size : ℕ) (begin : Answer ℕ) → and_then (and_then {B = ℕ × ℕ} begin (λ s. Gives (s - 1, size - (s - 1)))) (text_behind span o)
+      ≡ and_then (and_then begin (λ s. Gives (span_from span (o + (s - 1)) (size - (s - 1))))) text_at
+  to-the-end span o size (Gives s) = refl
+  to-the-end span o size (Fails e) = refl
+
+  so-many : (span : Span) (o size s : ℕ) (count : Answer ℕ) → and_then (and_then {B = ℕ × ℕ} count (λ c. Gives (s - 1, c))) (text_behind span o)
+      ≡ and_then (and_then count (λ c. Gives (span_from span (o + (s - 1)) c))) text_at
+  so-many span o size s (Gives c) = refl
+  so-many span o size s (Fails e) = refl
+
+  of-length : (span : Span) (o size : ℕ) (n : ℤ) (begin : Answer ℕ) → and_then (and_then begin (λ s. and_then {B = ℕ × ℕ} (within n (size - (s - 1))) (λ c. Gives (s - 1, c)))) (text_behind span o)
+      ≡ and_then (and_then begin (λ s. and_then (within n (size - (s - 1))) (λ c. Gives (span_from span (o + (s - 1)) c)))) text_at
+  of-length span o size n (Gives s) = so-many span o size s (within n (size - (s - 1)))
+  of-length span o size n (Fails e) = refl
+
+  of-read-length : (span : Span) (o size : ℕ) (start : ℤ) (length : Answer ℤ)
+      → and_then (and_then length (λ n. and_then (within start size) (λ s. and_then {B = ℕ × ℕ} (within n (size - (s - 1))) (λ c. Gives (s - 1, c))))) (text_behind span o)
+      ≡ and_then (and_then length (λ n. and_then (within start size) (λ s. and_then (within n (size - (s - 1))) (λ c. Gives (span_from span (o + (s - 1)) c))))) text_at
+  of-read-length span o size start (Gives n) = of-length span o size n (within start size)
+  of-read-length span o size start (Fails e) = refl
+
+  length-read : (span : Span) (o size : ℕ) (start : ℤ) (s : Sub) (b : Bound) → subscript (read_layout program l) store (read_sub s) ≡ bound_value (first_area l.areas) store b
+      → and_then (reference_from (read_layout program l) store size start (Some (read_sub s))) (text_behind span o) ≡ and_then (reference_at (first_area l.areas) store span o size start (Some b)) text_at
+  length-read span o size start s b same =
+      ap (λ (a : Answer ℤ). and_then (and_then a (λ n. and_then (within start size) (λ s. and_then {B = ℕ × ℕ} (within n (size - (s - 1))) (λ c. Gives (s - 1, c))))) (text_behind span o)) same
+      ∙ of-read-length span o size start (bound_value (first_area l.areas) store b)
+
+  by-length : (span : Span) (o size : ℕ) (start : ℤ) (s : Sub) (b : Option Bound) (one : Option Bound) → SubIsWord s → resolved.bound_of l s ≡ one → resolved.some_bound one ≡ Some b
+      → and_then (reference_from (read_layout program l) store size start (Some (read_sub s))) (text_behind span o) ≡ and_then (reference_at (first_area l.areas) store span o size start b) text_at
+  by-length span o size start s b None word here is = absurd (none-some b is)
+  by-length span o size start s b (Some one) word here is =
+      let same : Some one ≡ b = cc in
+      subst (λ (b : Option Bound). and_then (reference_from (read_layout program l) store size start (Some (read_sub s))) (text_behind span o) ≡ and_then (reference_at (first_area l.areas) store span o size start b) text_at) same
+      (length-read span o size start s one (bound-means s one word here))
+
+  -- a reference from a start that is read
   reference-means : (span : Span) (o size : ℕ) (start : ℤ) (length : Option Sub) (b : Option Bound) → LengthIsWord length → resolved.length_of l length ≡ Some b
-      → and_then (reference_from (read_layout program l) store size start (sub_if length)) (λ r. Gives (record { kind = kind.Text; span = record { area = (read_span (first_area l.areas) span).area; start = o + r.0; count = r.1 } }))
-      ≡ and_then (reference_at (first_area l.areas) store span o size start b) (λ s. Gives (record { kind = kind.Text; span = read_span (first_area l.areas) s }))
-  reference-means span o size start length b words is = ?
+      → and_then (reference_from (read_layout program l) store size start (sub_if length)) (text_behind span o) ≡ and_then (reference_at (first_area l.areas) store span o size start b) text_at
+  reference-means span o size start None b word is =
+      let none : None ≡ b = cc in
+      subst (λ (b : Option Bound). and_then (reference_from (read_layout program l) store size start None) (text_behind span o) ≡ and_then (reference_at (first_area l.areas) store span o size start b) text_at) none
+      (to-the-end span o size (within start size))
+  reference-means span o size start (Some s) b word is = by-length span o size start s b (resolved.bound_of l s) word refl is
+
+  abbrev seen_at : Option Part → Item → Span → Answer View
+  seen_at part item span = Gives (record { kind = kind_with (operand.kind_of_part part (operand.kind_of_item item)) item.picture; span = read_span (first_area l.areas) span })
+
+  by-cut : (item : Item) (v : Option tree.Operand) (o : ℕ) (part : Part) (cut : Option Cut) (start : Option Bound) (length : Option (Option Bound)) → CutIsWord (Some part)
+      → resolved.bound_of l part.start ≡ start → resolved.length_of l part.length ≡ length → resolved.cut_with start length ≡ Some cut
+      → cut_view (read_layout program l) store (read_item l item v) o (part_if (Some part)) ≡ and_then (cut_at (first_area l.areas) store item.span o cut) (seen_at (Some part) item)
+  by-cut item v o part cut None length words starts lengths is = absurd (none-some cut is)
+  by-cut item v o part cut (Some start) None words starts lengths is = absurd (none-some cut is)
+  by-cut item v o part cut (Some start) (Some length) words starts lengths is =
+      let there : Option Cut = Some (record { start = start; length = length }) in
+      let same : there ≡ cut = cc in
+      subst (λ (cut : Option Cut). cut_view (read_layout program l) store (read_item l item v) o (part_if (Some part)) ≡ and_then (cut_at (first_area l.areas) store item.span o cut) text_at) same
+      (ap (λ (a : Answer ℤ). and_then a (λ from. and_then (reference_from (read_layout program l) store item.span.length from (sub_if part.length)) (text_behind item.span o))) (bound-means part.start start words.0 starts)
+      ∙ then-same (bound_value (first_area l.areas) store start) (λ from. and_then (reference_from (read_layout program l) store item.span.length from (sub_if part.length)) (text_behind item.span o))
+      (λ from. and_then (reference_at (first_area l.areas) store item.span o item.span.length from length) text_at)
+      (λ from. reference-means item.span o item.span.length from part.length length words.1 lengths)
+      ∙ sym (then-then (bound_value (first_area l.areas) store start) (λ from. reference_at (first_area l.areas) store item.span o item.span.length from length) text_at))
 
   cut-means : (item : Item) (v : Option tree.Operand) (o : ℕ) (part : Option Part) (cut : Option Cut) → CutIsWord part → resolved.cut_of l part ≡ Some cut
-      → cut_view (read_layout program l) store (read_item l item v) o (part_if part)
-      ≡ and_then (cut_at (first_area l.areas) store item.span o cut) (λ s. Gives (record { kind = kind_with (operand.kind_of_part part (operand.kind_of_item item)) item.picture; span = read_span (first_area l.areas) s }))
-  cut-means item v o part cut words is = ?
+      → cut_view (read_layout program l) store (read_item l item v) o (part_if part) ≡ and_then (cut_at (first_area l.areas) store item.span o cut) (seen_at part item)
+  cut-means item v o None cut words is =
+      let none : None ≡ cut = cc in
+      subst (λ (cut : Option Cut). cut_view (read_layout program l) store (read_item l item v) o None ≡ and_then (cut_at (first_area l.areas) store item.span o cut) (seen_at None item)) none
+      (ap (λ (k : kind.Kind). Gives (record { kind = k; span = read_span (first_area l.areas) (span_from item.span o item.span.length) })) (kind-means item.class item.usage item.form item.picture))
+  cut-means item v o (Some part) cut words is = by-cut item v o part cut (resolved.bound_of l part.start) (resolved.length_of l part.length) words refl refl is
+
+module _ (program : Program) (l : Layout) (ids : AreNumbered (first_area l.areas) l.areas) where
+  taken-as : (item : Item) (part : Option Part) → cut_kind (part_if part) (read_kind item) ≡ kind_with (operand.kind_of_part part (operand.kind_of_item item)) item.picture
+  taken-as item None = kind-means item.class item.usage item.form item.picture
+  taken-as item (Some part) = refl
+
+  kind-of-whole : (place : Place) (item : Item) → IsItem program l place.names item
+      → kind_of (read_layout program l) (read_place place) ≡ kind_with (operand.kind_of_part place.cut (operand.kind_of_item item)) item.picture
+  kind-of-whole place item named = ap (λ (o : Option meant.Item). kind_meant o (part_if place.cut)) named.is ∙ taken-as item place.cut
+
+  view-of-whole : (place : Place) (item : Item) (subs : List Bound) (cut : Option Cut) (store : Storage) → AreWords place → IsItem program l place.names item
+      → resolved.bounds_of l place.subs ≡ Some subs → resolved.cut_of l place.cut ≡ Some cut
+      → view (read_layout program l) store (read_place place)
+      ≡ and_then (and_then (occurrence_at (first_area l.areas) store item.steps subs item.span.offset) (λ o. cut_at (first_area l.areas) store item.span o cut)) (seen_at program l ids store place.cut item)
+  view-of-whole place item subs cut store words named bounds cuts =
+      ap (λ (o : Option meant.Item). and_then (or_fault Range o) (λ i. view_of (read_layout program l) store i (read_place place))) named.is
+      ∙ ap (λ (a : Answer ℕ). and_then a (λ o. cut_view (read_layout program l) store (read_item l item named.value) o (part_if place.cut)))
+      (occurrence-means program l ids store place.subs subs item.steps item.span.offset words.subs bounds)
+      ∙ then-same (occurrence_at (first_area l.areas) store item.steps subs item.span.offset) (λ o. cut_view (read_layout program l) store (read_item l item named.value) o (part_if place.cut))
+      (λ o. and_then (cut_at (first_area l.areas) store item.span o cut) (seen_at program l ids store place.cut item))
+      (λ o. cut-means program l ids store item named.value o place.cut cut words.cut cuts)
+      ∙ sym (then-then (occurrence_at (first_area l.areas) store item.steps subs item.span.offset) (λ o. cut_at (first_area l.areas) store item.span o cut) (seen_at program l ids store place.cut item))
+
+  by-parts : (place : Place) (a : Access) (item : Item) (subs : Option (List Bound)) (cut : Option (Option Cut)) → AreWords place → IsItem program l place.names item
+      → resolved.bounds_of l place.subs ≡ subs → resolved.cut_of l place.cut ≡ cut → resolved.access_with item place.cut subs cut ≡ Some a
+      → IsAccess (first_area l.areas) (read_layout program l) (read_place place) a
+  by-parts place a item None cut words named bounds cuts is = absurd (none-some a is)
+  by-parts place a item (Some subs) None words named bounds cuts is = absurd (none-some a is)
+  by-parts place a item (Some subs) (Some cut) words named bounds cuts is =
+      let there : Access = record { kind = operand.kind_of_part place.cut (operand.kind_of_item item); picture = item.picture; span = item.span; steps = item.steps; subs = subs; cut = cut } in
+      let same : there ≡ a = cc in
+      subst (λ (a : Access). IsAccess (first_area l.areas) (read_layout program l) (read_place place) a) same
+      (record { kind = kind-of-whole place item named; view = λ store. view-of-whole place item subs cut store words named bounds cuts })
+
+  by-named : (place : Place) (a : Access) (o : Option Item) → AreWords place → resolved.item_named l place.names ≡ o → resolved.access_if l place o ≡ Some a
+      → IsAccess (first_area l.areas) (read_layout program l) (read_place place) a
+  by-named place a None words named is = absurd (none-some a is)
+  by-named place a (Some item) words named is =
+      by-parts place a item (resolved.bounds_of l place.subs) (resolved.cut_of l place.cut) words (item-named program l ids place.names item words.own named) refl refl is
+
+-- a place that is resolved is what it stands for
+pub access-means : (l : Layout) (place : Place) (a : Access) → AreNumbered (first_area l.areas) l.areas → AreWords place → resolved.access_of l place ≡ Some a → StandsFor l place a
+access-means l place a ids words is = λ program. by-named program l ids place a (resolved.item_named l place.names) words refl is
+
+pub resolved-means : {E : Type 0} (l : Layout) (place : Place) (item : Item) (r : Result (Option Access) E) → AreNumbered (first_area l.areas) l.areas → IsWord place.names
+    → resolved.item_named l place.names ≡ Some item → IfOk r (λ access. access ≡ resolved.access_if l place (Some item))
+    → IfOk r (λ access. IfSome access (λ a. AllByRecursion SubIsWord place.subs)) → IfOk r (λ access. IfSome access (λ a. CutIsWord place.cut)) → IfOk r (λ access. IfSome access (StandsFor l place))
+resolved-means l place item (Err e) ids own named is subs cut = record {}
+resolved-means l place item (Ok None) ids own named is subs cut = record {}
+resolved-means l place item (Ok (Some a)) ids own named is subs cut =
+    access-means l place a ids (record { own = own; subs = subs; cut = cut }) (ap (resolved.access_if l place) named ∙ sym is)

@@ -1,7 +1,11 @@
-ghost use Rattle.std.specs.Prelude.{◌≡◌, Some, IfOk, option_map};
+ghost use Rattle.std.specs.Prelude.{◌≡◌, ◌≢◌, Some, IfOk, IfSome, option_map};
+ghost use Rattle.std.specs.List.{AllByRecursion};
 ghost use Rattle.data_layout.specs.Index.{IsReady};
-ghost use Rattle.layout_reading.specs.Told.{item_told};
+ghost use Rattle.layout_reading.specs.Names.{unnamed};
+ghost use Rattle.layout_reading.specs.Numbered.{AreNumbered};
+ghost use Rattle.layout_reading.specs.Reading.{first_area};
 ghost use Rattle.operand_kinds.specs.Kinds as kinds;
+ghost use Rattle.storage_places.specs.Means.{StandsFor, IsWord, SubIsWord, LengthIsWord, CutIsWord};
 ghost use Rattle.storage_places.specs.Resolved as spec;
 ghost use Rattle.storage_places.specs.Resolved.{access_of};
 
@@ -15,8 +19,10 @@ use y2k_base::{Bytes, List, Memory, Twin};
 /// A place with its names resolved. There is none where one of its names means no item, several things or a
 /// condition-name, or where the item of a subscript or a reference isn't a number.
 pub fn resolve(alloc: Global, layout: &Layout, place: &Place) -> Result<Option<Access>, Memory>
-    requires { IsReady layout.now }
-    ensures { IfOk result (λ access. access ≡ access_of layout.now place.now) }
+    requires ready { IsReady layout.now }
+    requires numbered { AreNumbered (first_area layout.now.areas) layout.now.areas }
+    ensures access { IfOk result (λ access. access ≡ access_of layout.now place.now) }
+    ensures means { IfOk result (λ access. IfSome access (StandsFor layout.now place.now)) }
 {
     match item_named(layout, place.names.items()) {
         Some(item) => access_to(alloc, layout, item, place),
@@ -27,8 +33,10 @@ pub fn resolve(alloc: Global, layout: &Layout, place: &Place) -> Result<Option<A
 /// The item that a name means.
 fn item_named<'a>(layout: &'a Layout, names: &[Bytes]) -> Option<&'a Item>
     requires { IsReady layout.now }
-    ensures { option_map (λ item. item.now) result ≡ spec.item_named layout.now names.now }
+    ensures item { option_map (λ item. item.now) result ≡ spec.item_named layout.now names.now }
+    ensures words { IsWord names.now }
 {
+    are_words(names);
     match layout.find(names) {
         Found::Item(number) => layout.items.items().get(number as usize),
         Found::Named(_) => None,
@@ -37,9 +45,27 @@ fn item_named<'a>(layout: &'a Layout, names: &[Bytes]) -> Option<&'a Item>
     }
 }
 
+/// A name is bytes, so it isn't that of FILLER.
+fn are_words(names: &[Bytes])
+    ensures { IsWord names.now }
+{
+    match names {
+        [] => {}
+        [name, ..] => is_word(name.items()),
+    }
+}
+
+fn is_word(name: &[u8])
+    ensures { name.now ≢ unnamed }
+{
+    let _bytes = name;
+}
+
 fn access_to(alloc: Global, layout: &Layout, item: &Item, place: &Place) -> Result<Option<Access>, Memory>
     requires { IsReady layout.now }
-    ensures { IfOk result (λ access. access ≡ spec.access_if layout.now place.now (Some item.now)) }
+    ensures access { IfOk result (λ access. access ≡ spec.access_if layout.now place.now (Some item.now)) }
+    ensures subs { IfOk result (λ access. IfSome access (λ a. AllByRecursion SubIsWord place.now.subs)) }
+    ensures cut { IfOk result (λ access. IfSome access (λ a. CutIsWord place.now.cut)) }
 {
     match bounds_of(alloc, layout, place.subs.items())? {
         Some(subs) => access_with(alloc, item, &place.cut, subs, cut_of(layout, &place.cut)),
@@ -80,7 +106,8 @@ fn kind_of_part(part: &Option<Part>, whole: Kind) -> Kind
 
 fn bounds_of(alloc: Global, layout: &Layout, subs: &[Sub]) -> Result<Option<List<Bound>>, Memory>
     requires { IsReady layout.now }
-    ensures { IfOk result (λ bounds. bounds ≡ spec.bounds_of layout.now subs.now) }
+    ensures bounds { IfOk result (λ bounds. bounds ≡ spec.bounds_of layout.now subs.now) }
+    ensures words { IfOk result (λ bounds. IfSome bounds (λ bs. AllByRecursion SubIsWord subs.now)) }
 {
     let mut bounds = List::new(alloc);
     let mut rest = subs;
@@ -96,29 +123,31 @@ fn bounds_of(alloc: Global, layout: &Layout, subs: &[Sub]) -> Result<Option<List
 
 fn cut_of(layout: &Layout, cut: &Option<Part>) -> Option<Option<Cut>>
     requires { IsReady layout.now }
-    ensures { result ≡ spec.cut_of layout.now cut.now }
+    ensures cut { result ≡ spec.cut_of layout.now cut.now }
+    ensures words { CutIsWord cut.now }
 {
     match cut {
         None => Some(None),
-        Some(part) => match bound_of(layout, &part.start) {
-            Some(start) => cut_with(start, length_of(layout, &part.length)),
-            None => None,
-        },
+        Some(part) => cut_with(bound_of(layout, &part.start), length_of(layout, &part.length)),
     }
 }
 
-fn cut_with(start: Bound, length: Option<Option<Bound>>) -> Option<Option<Cut>>
-    ensures { result ≡ spec.cut_with (Some start) length }
+fn cut_with(start: Option<Bound>, length: Option<Option<Bound>>) -> Option<Option<Cut>>
+    ensures { result ≡ spec.cut_with start length }
 {
-    match length {
-        Some(length) => Some(Some(Cut { start, length })),
+    match start {
+        Some(start) => match length {
+            Some(length) => Some(Some(Cut { start, length })),
+            None => None,
+        },
         None => None,
     }
 }
 
 fn length_of(layout: &Layout, length: &Option<Sub>) -> Option<Option<Bound>>
     requires { IsReady layout.now }
-    ensures { result ≡ spec.length_of layout.now length.now }
+    ensures length { result ≡ spec.length_of layout.now length.now }
+    ensures words { LengthIsWord length.now }
 {
     match length {
         None => Some(None),
@@ -131,7 +160,8 @@ fn length_of(layout: &Layout, length: &Option<Sub>) -> Option<Option<Bound>>
 
 fn bound_of(layout: &Layout, sub: &Sub) -> Option<Bound>
     requires { IsReady layout.now }
-    ensures { result ≡ spec.bound_of layout.now sub.now }
+    ensures bound { result ≡ spec.bound_of layout.now sub.now }
+    ensures words { SubIsWord sub.now }
 {
     match sub {
         Sub::Number { value, at: _ } => Some(Bound::Literal(*value)),
