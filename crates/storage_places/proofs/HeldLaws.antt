@@ -1,6 +1,6 @@
 -- The bytes of areas, one area written anew, and spans that lie in them.
-use Rattle.std.proofs.Common.{◌≡◌, ℕ, ◌+◌, ◌-◌, ◌<◌, ◌≤◌, List, [], length, map, arith, slice_set, slice_index_or, refl, sym, ap, ◌∙◌, subst}
-use Rattle.std.proofs.lemmas.List.{map-set, get_or-map, length-map, set-get_or}
+use Rattle.std.proofs.Common.{◌≡◌, ℕ, ◌+◌, ◌-◌, ◌<◌, ◌≤◌, List, [], ◌∷◌, ap₂, replicate, length, map, arith, slice_set, slice_index_or, refl, sym, ap, ◌∙◌, subst}
+use Rattle.std.proofs.lemmas.List.{map-set, get_or-map, length-map, length-replicate, set-get_or}
 use Rattle.y2k_base.specs.declared.place.Span.{Span}
 use Rattle.storage_places.specs.Held.{lengths, IsWithin}
 
@@ -40,3 +40,7 @@ there-before items areas k there = subst (λ (n : ℕ). k < n) (length-map areas
 
 pub area-there : {V : Type 0} (items : V → List ℕ) (areas : List V) (k : ℕ) (now : V) → now ≡ slice_index_or areas k now → k < length areas → items now ≡ slice_index_or (map items areas) k []
 area-there items areas k now is there = ap items is ∙ sym (get_or-map items areas k now [] there)
+
+pub blank-lengths : (ns : List ℕ) → lengths (map (λ (n : ℕ). replicate n 32) ns) ≡ ns
+blank-lengths [] = refl
+blank-lengths (n ∷ ns) = ap₂ (λ (m : ℕ) (ms : List ℕ). m ∷ ms) (length-replicate n 32) (blank-lengths ns)

@@ -1,8 +1,12 @@
 -- Resolved places that lie in the areas of their program, with all occurrences.
-use Rattle.std.specs.Prelude.{◌≡◌, ℕ, ◌+◌, ◌-◌, ◌*◌, ◌^◌, ◌<◌, ◌≤◌, List, [], ◌∷◌, Option, Some, None}
+use Rattle.std.specs.Prelude.{◌≡◌, ℕ, ◌+◌, ◌-◌, ◌*◌, ◌^◌, ◌<◌, ◌≤◌, List, [], ◌∷◌, map, Option, Some, None}
 use Rattle.std.specs.List.{AllByRecursion}
 use Rattle.y2k_base.specs.declared.place.Span.{Span}
+use Rattle.data_layout.specs.declared.item.Class.TheVariants as class
+use Rattle.data_layout.specs.declared.item.Item.{Item}
+use Rattle.data_layout.specs.declared.item.Layout.{Layout}
 use Rattle.data_layout.specs.declared.item.Step.{Step}
+use Rattle.layout_reading.specs.Reading.{read_area, first_area}
 use Rattle.number_bytes.specs.Held.{number_length}
 use Rattle.storage_places.specs.declared.access.NumberItem.{NumberItem}
 use Rattle.storage_places.specs.declared.access.Bound.{Bound}
@@ -42,3 +46,17 @@ module _ (first : ℕ) (lengths : List ℕ) where
     pub short : a.span.offset + farthest a.steps + a.span.length < 2 ^ 32
     pub subs : AllByRecursion BoundFits a.subs
     pub cut : CutFits a.cut
+
+  -- an item that lies in the areas with all its occurrences
+  pub record ItemFits (item : Item) : Type 0 where
+    pub first_occurrence : IsWithin first lengths item.span
+    pub last_occurrence : IsWithin first lengths (record { area = item.span.area; offset = item.span.offset + farthest item.steps; length = item.span.length })
+    pub short : item.span.offset + farthest item.steps + item.span.length < 2 ^ 32
+    pub number : item.class ≡ class.Number → NumberFits (record { span = item.span; usage = item.usage; form = item.form })
+
+abbrev pub area_lengths : Layout → List ℕ
+area_lengths l = map read_area l.areas
+
+-- all items lie in the areas, and numbers are as long as their forms say
+abbrev pub LayoutFits : Layout → Type 0
+LayoutFits l = AllByRecursion (ItemFits (first_area l.areas) (area_lengths l)) l.items

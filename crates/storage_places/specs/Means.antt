@@ -16,6 +16,8 @@ use Rattle.tree_reading.specs.Reading.{read_place}
 use Rattle.layout_reading.specs.Names.{unnamed}
 use Rattle.layout_reading.specs.Reading.{read_layout, read_span, first_area}
 use Rattle.storage_places.specs.declared.access.Access.{Access}
+use Rattle.storage_places.specs.declared.fault.RunFault.{RunFault}
+use Rattle.storage_places.specs.Meets.{Meets}
 use Rattle.storage_places.specs.Reached.{access_kind, span_at}
 
 -- the bytes of a resolved place with what it is taken as
@@ -52,3 +54,13 @@ pub record AreWords (place : Place) : Type 0 where
   pub own : IsWord place.names
   pub subs : AllByRecursion SubIsWord place.subs
   pub cut : CutIsWord place.cut
+
+-- whatever it stands for is there, with what it is taken as
+abbrev pub IsThere : ℕ → Storage → Access → Span → Type 0
+IsThere first store a span =
+    (layout : meant.Layout) (place : tree.Place) → IsAccess first layout place a → view layout store place ≡ Gives (view_with first a span)
+
+-- whatever it stands for is nowhere, by this fault
+abbrev pub IsNowhere : ℕ → Storage → Access → RunFault → Type 0
+IsNowhere first store a fault =
+    (layout : meant.Layout) (place : tree.Place) → IsAccess first layout place a → Meets (view layout store place) fault

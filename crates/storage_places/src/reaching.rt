@@ -5,6 +5,7 @@ ghost use Rattle.program_meaning.specs.Storage as meant;
 ghost use Rattle.storage_places.specs.declared.access.Bound.TheVariants as bound;
 ghost use Rattle.storage_places.specs.Fits.{NumberFits, BoundFits, BoundIfFits, CutFits, Fits, farthest};
 ghost use Rattle.storage_places.specs.Held.{held, first, lengths, IsWithin};
+ghost use Rattle.storage_places.specs.Means.{IsThere, IsNowhere};
 ghost use Rattle.storage_places.specs.Meets.{Meets};
 ghost use Rattle.storage_places.specs.Reached as spec;
 ghost use Rattle.storage_places.specs.Reached.{bound_value, occurrence_at, reference_at, cut_at, span_at};
@@ -23,6 +24,8 @@ impl Storage {
         requires fits { Fits (first self.now) (lengths (held self.now)) access.now }
         ensures ok { IfOk result (λ span. span_at (first self.now) (held self.now) access.now ≡ Gives span) }
         ensures err { IfErr result (Meets (span_at (first self.now) (held self.now) access.now)) }
+        ensures there { IfOk result (IsThere (first self.now) (held self.now) access.now) }
+        ensures nowhere { IfErr result (IsNowhere (first self.now) (held self.now) access.now) }
         ensures within { IfOk result (IsWithin (first self.now) (lengths (held self.now))) }
     {
         let offset = self.occurrence(access.steps.items(), access.subs.items(), access.span.offset)?;

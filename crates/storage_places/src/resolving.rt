@@ -5,6 +5,7 @@ ghost use Rattle.layout_reading.specs.Names.{unnamed};
 ghost use Rattle.layout_reading.specs.Numbered.{AreNumbered};
 ghost use Rattle.layout_reading.specs.Reading.{first_area};
 ghost use Rattle.operand_kinds.specs.Kinds as kinds;
+ghost use Rattle.storage_places.specs.Fits.{Fits, LayoutFits, area_lengths};
 ghost use Rattle.storage_places.specs.Means.{StandsFor, IsWord, SubIsWord, LengthIsWord, CutIsWord};
 ghost use Rattle.storage_places.specs.Resolved as spec;
 ghost use Rattle.storage_places.specs.Resolved.{access_of};
@@ -23,6 +24,7 @@ pub fn resolve(alloc: Global, layout: &Layout, place: &Place) -> Result<Option<A
     requires numbered { AreNumbered (first_area layout.now.areas) layout.now.areas }
     ensures access { IfOk result (λ access. access ≡ access_of layout.now place.now) }
     ensures means { IfOk result (λ access. IfSome access (StandsFor layout.now place.now)) }
+    ensures fits { LayoutFits layout.now → IfOk result (λ access. IfSome access (Fits (first_area layout.now.areas) (area_lengths layout.now))) }
 {
     match item_named(layout, place.names.items()) {
         Some(item) => access_to(alloc, layout, item, place),

@@ -3,6 +3,7 @@ ghost use Rattle.byte_lists.specs.Part as spec;
 ghost use Rattle.byte_lists.specs.Part.{with_part};
 ghost use Rattle.program_meaning.specs.Storage.{read, write};
 ghost use Rattle.layout_reading.specs.Reading.{read_span, read_area, first_area};
+ghost use Rattle.storage_places.specs.Fits.{area_lengths};
 ghost use Rattle.storage_places.specs.Held.{held, first, lengths, IsWithin};
 
 use data_layout::{Area, Layout};
@@ -29,6 +30,7 @@ impl Storage {
     pub fn spaces(alloc: Global, layout: &Layout) -> Result<Storage, Memory>
         ensures held { IfOk result (λ storage. held storage ≡ map (λ n. replicate n 32) (map read_area layout.now.areas)) }
         ensures first { IfOk result (λ storage. first storage ≡ first_area layout.now.areas) }
+        ensures lengths { IfOk result (λ storage. lengths (held storage) ≡ area_lengths layout.now) }
     {
         let areas = blank_areas(alloc, layout.areas.items())?;
         Ok(Storage {
