@@ -44,10 +44,12 @@ pub held_from : (v : ℤ) (scale : ℕ) (there : Option Decimal) (x : Scaled) �
 held_from v scale there x h same_number same_scale = record {
   decimal = h.decimal;
   is = h.is;
-  digits = h.digits;
-  value = let number : value_of h.decimal ≡ x.number = sym h.amount ∙ sym same_number in
-      let scaled : h.decimal.scale ≡ x.scale = h.places ∙ sym same_scale in
-      ap (λ (n : ℤ). exact.scaled n h.decimal.scale) number ∙ ap (λ (s : ℕ). exact.scaled x.number s) scaled;
+  exactly = record {
+    digits = h.digits;
+    number = let number : value_of h.decimal ≡ x.number = sym h.amount ∙ sym same_number in
+        let scaled : h.decimal.scale ≡ x.scale = h.places ∙ sym same_scale in
+        ap (λ (n : ℤ). exact.scaled n h.decimal.scale) number ∙ ap (λ (s : ℕ). exact.scaled x.number s) scaled;
+  };
 }
 
 pub small_from : (v : ℤ) (scale : ℕ) (there : Option Decimal) → IsNumber v scale there → unsigned_abs v < 10 ^ 19

@@ -27,7 +27,7 @@ byte_number_below (b ∷ bs) h =
     omega arith
 
 -- the magnitude of a number below zero
-unsigned_abs-minus : (u p : ℕ) → u ≤ p → unsigned_abs (pos u -ℤ pos p) ≡ p - u
+pub unsigned_abs-minus : (u p : ℕ) → u ≤ p → unsigned_abs (pos u -ℤ pos p) ≡ p - u
 unsigned_abs-minus u p h = grind arith
 
 pub complement_small : (k u : ℕ) → k ≤ 8 → u < 256 ^ k → unsigned_abs (twos_complement k u) < 10 ^ 19

@@ -13,7 +13,7 @@ use Rattle.number_bytes.specs.Held.{read_form}
 use Rattle.number_bytes.proofs.PlaceLaws.{digit_in}
 use Rattle.number_bytes.proofs.Agreement.{Agrees, text_agrees}
 
-abbrev form : ℕ → ℕ → Bool → SignPlace → NumForm
+abbrev pub form : ℕ → ℕ → Bool → SignPlace → NumForm
 form n scale signed sign = record { digits = n; scale = scale; signed = signed; sign = sign }
 
 signed_digit-is : (c : ℕ) → bytes.signed_digit c ≡ digit_in 48 (without_minus c)
@@ -23,7 +23,7 @@ signed_digit-is c = tested (leb 112 c)
     tested true = refl
     tested false = refl
 
-plain_at : (bs : List ℕ) (k : ℕ) → bytes.plain_digit (slice_index bs (0 + k)) ≡ digit_in 48 (get_or bs k 0)
+pub plain_at : (bs : List ℕ) (k : ℕ) → bytes.plain_digit (slice_index bs (0 + k)) ≡ digit_in 48 (get_or bs k 0)
 plain_at bs k = let e : 0 + k ≡ k = omega arith in ap (λ i. bytes.plain_digit (slice_index bs i)) e
 
 -- a sign in a byte of its own
@@ -33,7 +33,7 @@ mark_agrees scale n bs digit true plus few size h = text_agrees true scale n bs 
 mark_agrees scale n bs digit false true few size h = text_agrees false scale n bs digit few size h
 mark_agrees scale n bs digit false false few size h = refl
 
-trailing_at : (n scale : ℕ) (bs : List ℕ) (k : ℕ) → 1 ≤ n → length bs ≡ n → k < n →
+pub trailing_at : (n scale : ℕ) (bs : List ℕ) (k : ℕ) → 1 ≤ n → length bs ≡ n → k < n →
     bytes.display_digit (form n scale true Trailing) bs k ≡ digit_in 48 (get_or (take (n - 1) bs ++ without_minus (slice_index bs (n - 1)) ∷ []) k 0)
 trailing_at n scale bs k some size within =
     let last : ℕ = without_minus (slice_index bs (n - 1)) in
@@ -51,7 +51,7 @@ trailing_at n scale bs k some size within =
           ∙ ap (digit_in 48) (sym (get_or_append_left (take (n - 1) bs) (last ∷ []) 0 k (omega arith) ∙ get_or-take (n - 1) bs k 0 before))
     ]
 
-leading_at : (n scale : ℕ) (bs : List ℕ) (k : ℕ) → bytes.display_digit (form n scale true Leading) bs k ≡ digit_in 48 (get_or (without_minus (slice_index bs 0) ∷ drop 1 bs) k 0)
+pub leading_at : (n scale : ℕ) (bs : List ℕ) (k : ℕ) → bytes.display_digit (form n scale true Leading) bs k ≡ digit_in 48 (get_or (without_minus (slice_index bs 0) ∷ drop 1 bs) k 0)
 leading_at n scale bs zero = let e : 0 + 0 ≡ 0 = omega arith in ap (λ i. bytes.signed_digit (slice_index bs i)) e ∙ signed_digit-is (slice_index bs 0)
 leading_at n scale bs (suc k) =
     let e : 1 + k ≡ suc k = omega arith in

@@ -3,5 +3,8 @@ pub mod BinaryLaws
 pub mod BoolLaws
 pub mod DigitLaws
 pub mod DisplayLaws
+pub mod EditLaws
 pub mod PackedLaws
 pub mod PlaceLaws
+pub mod StoreLaws
+pub mod WrittenLaws

@@ -65,7 +65,7 @@ guarded true false v scale there same h = cc
 guarded false true v scale there same h = cc
 
 -- an even number of digits has a half-byte before them
-front_size : (n : ℕ) → length (front n) ≡ (n + 1) % 2
+pub front_size : (n : ℕ) → length (front n) ≡ (n + 1) % 2
 front_size n =
     elim (cases_eq (n % 2) 0) [
       | inl even ↦ ap (λ b. length (cond {A = List ℕ} b (0 ∷ []) [])) (eq-eqb (n % 2) 0 even) ∙ (omega arith)
@@ -76,7 +76,7 @@ first_zero : (hs : List ℕ) → 0 < length hs → all_zero (take 1 hs) ≡ (get
 first_zero [] some = absurd (omega arith)
 first_zero (h ∷ hs) some = elim (h == 0) as (λ b. (b && true) ≡ b) [ true ↦ refl | false ↦ refl ]
 
-front_zero : (form : NumForm) (bs : List ℕ) → length bs ≡ bytes.packed_length form → bytes.has_zero_front form bs ≡ all_zero (take (length (front form.digits)) (halves bs))
+pub front_zero : (form : NumForm) (bs : List ℕ) → length bs ≡ bytes.packed_length form → bytes.has_zero_front form bs ≡ all_zero (take (length (front form.digits)) (halves bs))
 front_zero form bs size =
     let some : 0 < length (halves bs) = omega (arith, length-halves bs) in
     tested (form.digits % 2 == 0) some
@@ -84,6 +84,17 @@ front_zero form bs size =
     tested : (even : Bool) → 0 < length (halves bs) → cond even (half_byte bs 0 == 0) true ≡ all_zero (take (length (cond {A = List ℕ} even (0 ∷ []) [])) (halves bs))
     tested true some = ap (λ h. h == 0) (half_byte-is bs 0) ∙ sym (first_zero (halves bs) some)
     tested false some = refl
+
+-- a digit by its place
+pub packed_digit-is : (form : NumForm) (bs : List ℕ) (k : ℕ) → k < form.digits → bytes.packed_digit form bs k ≡ digit_in 0 (get_or (take form.digits (drop (length (front form.digits)) (halves bs))) k 0)
+packed_digit-is form bs k below =
+    let n : ℕ = form.digits in
+    let hs : List ℕ = halves bs in
+    let before : ℕ = length (front n) in
+    let start : before ≡ bytes.packed_start form = front_size n in
+    let half : half_byte bs (bytes.packed_start form + k) ≡ get_or (take n (drop before hs)) k 0 =
+    ap (λ s. half_byte bs (s + k)) (sym start) ∙ half_byte-is bs (before + k) ∙ sym (get_or-take n (drop before hs) k 0 below ∙ get_or-drop before hs k 0) in
+    ap (λ h. cond {A = Option ℕ} (ltb h 10) (Some h) None) half ∙ below_ten (get_or (take n (drop before hs)) k 0)
 
 pub packed_agrees : (form : NumForm) (bs : List ℕ) → 1 ≤ form.digits → form.digits ≤ 18 → length bs ≡ bytes.packed_length form →
     Agrees (bytes.packed_value form bs) form.scale (packed_number (read_form form) bs)
@@ -95,12 +106,8 @@ packed_agrees form bs some few size =
     let whole : length hs ≡ 2 * length bs = length-halves bs in
     let ds : List ℕ = take n (drop before hs) in
     let length_ds : length ds ≡ n = omega (arith, length-take n (drop before hs), length-drop before hs) in
-    let digit_at : (k : ℕ) → k < n → bytes.packed_digit form bs k ≡ digit_in 0 (get_or ds k 0) = λ k below.
-    let half : half_byte bs (bytes.packed_start form + k) ≡ get_or ds k 0 =
-    ap (λ s. half_byte bs (s + k)) (sym start) ∙ half_byte-is bs (before + k) ∙ sym (get_or-take n (drop before hs) k 0 below ∙ get_or-drop before hs k 0) in
-    ap (λ h. cond {A = Option ℕ} (ltb h 10) (Some h) None) half ∙ below_ten (get_or ds k 0) in
     let sign : bytes.is_minus_code (half_byte bs (bytes.sign_place form)) ≡ packed_sign (slice_index hs (before + n)) =
     ap (λ s. bytes.is_minus_code (half_byte bs (s + n))) (sym start) ∙ ap packed_sign (half_byte-is bs (before + n)) in
-    let inner = signed_agree (packed_sign (slice_index hs (before + n))) form.scale n ds (bytes.packed_digit form bs) (omega arith) length_ds digit_at in
+    let inner = signed_agree (packed_sign (slice_index hs (before + n))) form.scale n ds (bytes.packed_digit form bs) (omega arith) length_ds (λ k below. packed_digit-is form bs k below) in
     guarded (bytes.has_zero_front form bs) (all_zero (take before hs)) (signed_number (bytes.is_minus_code (half_byte bs (bytes.sign_place form))) (places.decimal n (bytes.packed_digit form bs))) form.scale (packed_of (packed_sign (slice_index hs (before + n))) form.scale ds)
     (front_zero form bs size) (subst (λ (o : Option Bool). Agrees (signed_number o (places.decimal n (bytes.packed_digit form bs))) form.scale (packed_of (packed_sign (slice_index hs (before + n))) form.scale ds)) (sym sign) inner)

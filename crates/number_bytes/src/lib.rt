@@ -6,6 +6,17 @@
 //! is lost.
 #![tactic(auto)]
 
+mod classes;
+mod digits;
+mod editing;
 mod reading;
+mod storing;
 
-pub use reading::read_number;
+pub use classes::{is_alphabetic, is_digits, is_numeric};
+pub use digits::{put_digits, shown_number};
+pub use editing::store_edited;
+pub use reading::{read_number, text_number};
+pub use storing::{at_point, store_number, stored_value};
+
+#[cfg(test)]
+mod tests;
