@@ -1,5 +1,5 @@
 -- The bytes of areas, one area written anew, and spans that lie in them.
-use Rattle.std.proofs.Common.{◌≡◌, ℕ, ◌+◌, ◌-◌, ◌<◌, ◌≤◌, List, [], ◌∷◌, ap₂, replicate, length, map, arith, slice_set, slice_index_or, refl, sym, ap, ◌∙◌, subst}
+use Rattle.std.proofs.Common.{◌≡◌, ℕ, ◌+◌, ◌-◌, ◌<◌, ◌≤◌, List, [], ◌∷◌, ap₂, replicate, length, map, slice_set, slice_index_or, refl, sym, ap, ◌∙◌, subst}
 use Rattle.std.proofs.lemmas.List.{map-set, get_or-map, length-map, length-replicate, set-get_or}
 use Rattle.y2k_base.specs.declared.place.Span.{Span}
 use Rattle.storage_places.specs.Held.{lengths, IsWithin}

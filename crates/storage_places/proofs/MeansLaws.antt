@@ -1,6 +1,6 @@
 -- A place that is resolved is at the same bytes as the place that it stands for.
-use Rattle.std.proofs.Common.{◌≡◌, ◌≢◌, ℕ, zero, suc, ◌+◌, ◌-◌, ◌*◌, List, [], ◌∷◌, map, refl, sym, ap, ◌∙◌, subst, Option, Some, None, ℤ, pos}
-use Rattle.std.specs.Prelude.{slice_get, IfOk, IfSome, Result, Ok, Err}
+use Rattle.std.proofs.Common.{◌≡◌, ◌≢◌, ℕ, ◌+◌, ◌-◌, ◌*◌, List, [], ◌∷◌, map, refl, sym, ap, ◌∙◌, subst, Option, Some, None, ℤ}
+use Rattle.std.specs.Prelude.{IfOk, IfSome, Result, Ok, Err}
 use Rattle.std.specs.List.{AllByRecursion}
 use Rattle.std.proofs.lemmas.Option.{none-some}
 use Rattle.y2k_base.specs.declared.picture.Picture.{Picture}
@@ -27,23 +27,22 @@ use Rattle.program_meaning.specs.Kind as kind
 use Rattle.program_meaning.specs.Layout as meant
 use Rattle.program_meaning.specs.Layout.{item_of}
 use Rattle.program_meaning.specs.Number.{value_of}
-use Rattle.program_meaning.specs.Storage.{Storage, View, read, decimal_in, item_meant, within, subscript, occurrence, reference_from, cut_view, view_of, view, cut_kind, kind_meant, kind_of}
-use Rattle.tree_reading.specs.Reading.{read_sub, sub_if, part_if, read_place, read_usage}
-use Rattle.layout_reading.specs.Kinds.{read_kind, kind_by, read_form}
+use Rattle.program_meaning.specs.Storage.{Storage, View, read, decimal_in, within, subscript, occurrence, reference_from, cut_view, view_of, view, cut_kind, kind_meant, kind_of}
+use Rattle.tree_reading.specs.Reading.{read_sub, sub_if, part_if, read_place}
+use Rattle.layout_reading.specs.Kinds.{read_kind, kind_by}
 use Rattle.layout_reading.specs.Names.{unnamed}
 use Rattle.layout_reading.specs.Numbered.{AreNumbered}
 use Rattle.layout_reading.specs.Reading.{read_layout, read_item, read_span, read_step, first_area}
 use Rattle.layout_reading.specs.Told.{item_told}
 use Rattle.layout_reading.specs.Values.{values_of, value_at}
 use Rattle.layout_reading.proofs.Seen.{item-at}
-use Rattle.storage_places.specs.declared.access.NumberItem.{NumberItem}
 use Rattle.storage_places.specs.declared.access.Bound.{Bound}
 use Rattle.storage_places.specs.declared.access.Bound.TheVariants as bound
 use Rattle.storage_places.specs.declared.access.Cut.{Cut}
 use Rattle.storage_places.specs.declared.access.Access.{Access}
 use Rattle.storage_places.specs.Resolved as resolved
-use Rattle.storage_places.specs.Reached.{kind_with, access_kind, span_from, bound_value, occurrence_at, reference_at, cut_at, span_at}
-use Rattle.storage_places.specs.Means.{view_with, IsAccess, StandsFor, IsWord, SubIsWord, LengthIsWord, CutIsWord, AreWords}
+use Rattle.storage_places.specs.Reached.{kind_with, span_from, bound_value, occurrence_at, reference_at, cut_at}
+use Rattle.storage_places.specs.Means.{IsAccess, StandsFor, IsWord, SubIsWord, LengthIsWord, CutIsWord, AreWords}
 
 then-same : {A B : Type 0} (a : Answer A) (f g : A → Answer B) → ((x : A) → f x ≡ g x) → and_then a f ≡ and_then a g
 then-same (Gives x) f g same = same x

@@ -1,7 +1,6 @@
 -- Resolved places that lie in the areas of their program, with all occurrences.
 use Rattle.std.specs.Prelude.{◌≡◌, ℕ, ◌+◌, ◌-◌, ◌*◌, ◌^◌, ◌<◌, ◌≤◌, List, [], ◌∷◌, map, Option, Some, None}
 use Rattle.std.specs.List.{AllByRecursion}
-use Rattle.y2k_base.specs.declared.place.Span.{Span}
 use Rattle.data_layout.specs.declared.item.Class.TheVariants as class
 use Rattle.data_layout.specs.declared.item.Item.{Item}
 use Rattle.data_layout.specs.declared.item.Layout.{Layout}

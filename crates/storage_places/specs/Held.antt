@@ -1,5 +1,5 @@
 -- The storage of a running program as the meaning of programs has it.
-use Rattle.std.specs.Prelude.{ℕ, ◌+◌, ◌-◌, ◌<◌, ◌≤◌, List, [], length, map, slice_index_or}
+use Rattle.std.specs.Prelude.{ℕ, ◌+◌, ◌-◌, ◌<◌, ◌≤◌, List, length, map, slice_index_or}
 use Rattle.y2k_base.specs.declared.place.Span.{Span}
 use Rattle.program_meaning.specs.Storage as meant
 use Rattle.storage_places.specs.declared.storage.Storage.{Storage}

@@ -8,11 +8,10 @@ use Rattle.operand_kinds.specs.declared.kind.Kind.TheVariants as kinds
 use Rattle.program_meaning.specs.Answer.{Answer, Gives, and_then}
 use Rattle.program_meaning.specs.Number.{value_of}
 use Rattle.program_meaning.specs.Kind.{Kind, Group, Text, Edited, Number}
-use Rattle.program_meaning.specs.Storage.{Storage, View, read, decimal_in, within}
+use Rattle.program_meaning.specs.Storage.{Storage, read, decimal_in, within}
 use Rattle.tree_reading.specs.Reading.{read_usage}
 use Rattle.layout_reading.specs.Kinds.{read_form, symbols}
 use Rattle.layout_reading.specs.Reading.{read_span}
-use Rattle.storage_places.specs.declared.access.NumberItem.{NumberItem}
 use Rattle.storage_places.specs.declared.access.Bound.{Bound}
 use Rattle.storage_places.specs.declared.access.Bound.TheVariants as bound
 use Rattle.storage_places.specs.declared.access.Cut.{Cut}

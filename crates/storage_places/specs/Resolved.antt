@@ -1,5 +1,5 @@
 -- Places with their names resolved.
-use Rattle.std.specs.Prelude.{ℕ, List, [], ◌∷◌, Option, Some, None, slice_get}
+use Rattle.std.specs.Prelude.{ℕ, List, [], ◌∷◌, Option, Some, None}
 use Rattle.cobol_syntax.specs.declared.place.Place.{Place}
 use Rattle.cobol_syntax.specs.declared.place.Part.{Part}
 use Rattle.cobol_syntax.specs.declared.place.Sub.{Sub}
@@ -11,7 +11,6 @@ use Rattle.data_layout.specs.declared.item.Layout.{Layout}
 use Rattle.data_layout.specs.Find.{meaning}
 use Rattle.operand_kinds.specs.Kinds.{kind_of_item, kind_of_part}
 use Rattle.layout_reading.specs.Told.{item_told}
-use Rattle.storage_places.specs.declared.access.NumberItem.{NumberItem}
 use Rattle.storage_places.specs.declared.access.Bound.{Bound}
 use Rattle.storage_places.specs.declared.access.Bound.TheVariants as bound
 use Rattle.storage_places.specs.declared.access.Cut.{Cut}

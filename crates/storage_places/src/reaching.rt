@@ -28,7 +28,11 @@ impl Storage {
         ensures nowhere { IfErr result (IsNowhere (first self.now) (held self.now) access.now) }
         ensures within { IfOk result (IsWithin (first self.now) (lengths (held self.now))) }
     {
-        let offset = self.occurrence(access.steps.items(), access.subs.items(), access.span.offset)?;
+        let offset = self.occurrence(
+            access.steps.items(),
+            access.subs.items(),
+            access.span.offset,
+        )?;
         let span = self.cut_at(access.span, offset, access.cut)?;
         Ok(span)
     }
@@ -78,7 +82,13 @@ impl Storage {
         }
     }
 
-    fn reference(&self, span: Span, offset: u32, start: i128, length: Option<Bound>) -> Result<Span, RunFault>
+    fn reference(
+        &self,
+        span: Span,
+        offset: u32,
+        start: i128,
+        length: Option<Bound>,
+    ) -> Result<Span, RunFault>
         requires length { BoundIfFits (first self.now) (lengths (held self.now)) length }
         requires short { offset + span.length < 2 ^ 32 }
         ensures ok { IfOk result (λ part. reference_at (first self.now) (held self.now) span offset span.length start length ≡ Gives part) }

@@ -63,7 +63,12 @@ fn is_word(name: &[u8])
     let _bytes = name;
 }
 
-fn access_to(alloc: Global, layout: &Layout, item: &Item, place: &Place) -> Result<Option<Access>, Memory>
+fn access_to(
+    alloc: Global,
+    layout: &Layout,
+    item: &Item,
+    place: &Place,
+) -> Result<Option<Access>, Memory>
     requires { IsReady layout.now }
     ensures access { IfOk result (λ access. access ≡ spec.access_if layout.now place.now (Some item.now)) }
     ensures subs { IfOk result (λ access. IfSome access (λ a. AllByRecursion SubIsWord place.now.subs)) }
@@ -130,7 +135,10 @@ fn cut_of(layout: &Layout, cut: &Option<Part>) -> Option<Option<Cut>>
 {
     match cut {
         None => Some(None),
-        Some(part) => cut_with(bound_of(layout, &part.start), length_of(layout, &part.length)),
+        Some(part) => cut_with(
+            bound_of(layout, &part.start),
+            length_of(layout, &part.length),
+        ),
     }
 }
 

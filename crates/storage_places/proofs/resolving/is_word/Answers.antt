@@ -1,4 +1,4 @@
-use Rattle.std.proofs.Common.{◌≡◌, ℕ, ◌<◌, List, slice_index_or, subst, arith, Fits, w8}
+use Rattle.std.proofs.Common.{ℕ, List, slice_index_or, subst, arith, Fits, w8}
 use Rattle.layout_reading.specs.Names.{unnamed}
 use Rattle.storage_places.proofs.resolving.is_word.Goals as goal
 

@@ -1,4 +1,4 @@
-use Rattle.std.proofs.Common.{◌≡◌, ℕ, List, map, replicate, ap, ◌∙◌}
+use Rattle.std.proofs.Common.{map, ap, ◌∙◌}
 use Rattle.layout_reading.specs.Reading.{read_area}
 use Rattle.storage_places.specs.Held.{lengths}
 use Rattle.storage_places.proofs.HeldLaws.{blank-lengths}
