@@ -22,12 +22,17 @@ use Rattle.storage_places.specs.declared.access.Bound.TheVariants as bound
 use Rattle.storage_places.specs.declared.access.Cut.{Cut}
 use Rattle.storage_places.specs.declared.access.Access.{Access}
 use Rattle.storage_places.specs.Resolved as resolved
-use Rattle.storage_places.specs.Fits.{BoundFits, BoundIfFits, CutFits, Fits, ItemFits, LayoutFits, area_lengths}
+use Rattle.storage_places.specs.Fits.{IsNumber, KindFits, TakesText, NumberFits, BoundFits, BoundIfFits, CutFits, Fits, ItemFits, LayoutFits, area_lengths}
 
 at-number : (P : Item → Type 0) (items : List Item) (k : ℕ) (item : Item) → AllByRecursion P items → slice_get items k ≡ Some item → P item
 at-number P [] k item all is = absurd (none-some item is)
 at-number P (i ∷ items) zero item all is = let same : i ≡ item = cc in subst P same all.0
 at-number P (i ∷ items) (suc k) item all is = at-number P items k item all.1 is
+
+kind-fits : (part : Option Part) (item : Item) → KindFits (operand.kind_of_item item) item.picture item.span.length
+    → KindFits (operand.kind_of_part part (operand.kind_of_item item)) item.picture item.span.length
+kind-fits None item fits = fits
+kind-fits (Some part) item fits = tt
 
 module _ (l : Layout) (fit : LayoutFits l) where
   by-meaning : (f : Found) (item : Item) → item_told l.items f ≡ Some item → ItemFits (first_area l.areas) (area_lengths l) item
@@ -46,7 +51,9 @@ module _ (l : Layout) (fit : LayoutFits l) where
   by-class item class.Number b is fits bounds =
       let there : Bound = bound.Number (record { span = item.span; usage = item.usage; form = item.form }) in
       let same : there ≡ b = cc in
-      subst (BoundFits (first_area l.areas) (area_lengths l)) same (fits.number is)
+      let number : IsNumber item.usage item.form item.span.length =
+          subst (λ (c : Class). KindFits (operand.kind_of c item.usage item.form) item.picture item.span.length) is fits.kind in
+      subst (BoundFits (first_area l.areas) (area_lengths l)) same (record { within = fits.first_occurrence; number = number })
 
   by-item : (names : List (List ℕ)) (b : Bound) (o : Option Item) → resolved.item_named l names ≡ o → resolved.bound_if o ≡ Some b → BoundFits (first_area l.areas) (area_lengths l) b
   by-item names b None named is = absurd (none-some b is)
@@ -88,6 +95,11 @@ module _ (l : Layout) (fit : LayoutFits l) where
   cut-fits None cut is = let none : None ≡ cut = cc in subst (CutFits (first_area l.areas) (area_lengths l)) none tt
   cut-fits (Some part) cut is = by-cut part cut (resolved.bound_of l part.start) (resolved.length_of l part.length) refl refl is
 
+  takes-text : (part : Option Part) (item : Item) (cut : Option Cut) → resolved.cut_of l part ≡ Some cut → TakesText cut (operand.kind_of_part part (operand.kind_of_item item))
+  takes-text None item cut is = let none : None ≡ cut = cc in subst (λ (c : Option Cut). TakesText c (operand.kind_of_item item)) none tt
+  takes-text (Some part) item None is = tt
+  takes-text (Some part) item (Some c) is = refl
+
   by-parts : (place : Place) (a : Access) (item : Item) (subs : Option (List Bound)) (cut : Option (Option Cut)) → ItemFits (first_area l.areas) (area_lengths l) item
       → resolved.bounds_of l place.subs ≡ subs → resolved.cut_of l place.cut ≡ cut → resolved.access_with item place.cut subs cut ≡ Some a → Fits (first_area l.areas) (area_lengths l) a
   by-parts place a item None cut fits bounds cuts is = absurd (none-some a is)
@@ -96,7 +108,7 @@ module _ (l : Layout) (fit : LayoutFits l) where
       let there : Access = record { kind = operand.kind_of_part place.cut (operand.kind_of_item item); picture = item.picture; span = item.span; steps = item.steps; subs = subs; cut = cut } in
       let same : there ≡ a = cc in
       subst (Fits (first_area l.areas) (area_lengths l)) same
-      (record { first_occurrence = fits.first_occurrence; last_occurrence = fits.last_occurrence; short = fits.short; subs = bounds-fit place.subs subs bounds; cut = cut-fits place.cut cut cuts })
+      (record { first_occurrence = fits.first_occurrence; last_occurrence = fits.last_occurrence; short = fits.short; kind = kind-fits place.cut item fits.kind; subs = bounds-fit place.subs subs bounds; cut = cut-fits place.cut cut cuts; text = takes-text place.cut item cut cuts })
 
   by-named : (place : Place) (a : Access) (o : Option Item) → resolved.item_named l place.names ≡ o → resolved.access_if l place o ≡ Some a → Fits (first_area l.areas) (area_lengths l) a
   by-named place a None named is = absurd (none-some a is)

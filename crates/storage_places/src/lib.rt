@@ -4,11 +4,13 @@
 
 mod access;
 mod fault;
+mod fitting;
 mod reaching;
 mod resolving;
 mod storage;
 
 pub use access::{Access, Bound, Cut, NumberItem};
 pub use fault::RunFault;
+pub use fitting::layout_fits;
 pub use resolving::resolve;
 pub use storage::Storage;

@@ -1,9 +1,9 @@
-ghost use Rattle.std.specs.Prelude.{◌≡◌, ◌+◌, ◌-◌, ◌*◌, ◌^◌, ◌<◌, ◌≤◌, IfOk, IfErr, length};
+ghost use Rattle.std.specs.Prelude.{None, ◌≡◌, ◌+◌, ◌-◌, ◌*◌, ◌^◌, ◌<◌, ◌≤◌, IfOk, IfErr, length};
 ghost use Rattle.std.specs.List.{AllByRecursion};
 ghost use Rattle.program_meaning.specs.Answer.{Gives};
 ghost use Rattle.program_meaning.specs.Storage as meant;
 ghost use Rattle.storage_places.specs.declared.access.Bound.TheVariants as bound;
-ghost use Rattle.storage_places.specs.Fits.{NumberFits, BoundFits, BoundIfFits, CutFits, Fits, farthest};
+ghost use Rattle.storage_places.specs.Fits.{KindFits, NumberFits, BoundFits, BoundIfFits, CutFits, Fits, farthest};
 ghost use Rattle.storage_places.specs.Held.{held, first, lengths, IsWithin};
 ghost use Rattle.storage_places.specs.Means.{IsThere, IsNowhere};
 ghost use Rattle.storage_places.specs.Meets.{Meets};
@@ -27,6 +27,7 @@ impl Storage {
         ensures there { IfOk result (IsThere (first self.now) (held self.now) access.now) }
         ensures nowhere { IfErr result (IsNowhere (first self.now) (held self.now) access.now) }
         ensures within { IfOk result (IsWithin (first self.now) (lengths (held self.now))) }
+        ensures kind { IfOk result (λ span. KindFits access.now.kind access.now.picture span.length) }
     {
         let offset = self.occurrence(
             access.steps.items(),
@@ -71,6 +72,7 @@ impl Storage {
         ensures err { IfErr result (Meets (cut_at (first self.now) (held self.now) span offset cut)) }
         ensures area { IfOk result (λ part. part.area ≡ span.area) }
         ensures most { IfOk result (λ part. part.offset + part.length ≤ offset + span.length) }
+        ensures whole { cut ≡ None → IfOk result (λ part. part.length ≡ span.length) }
     {
         match cut {
             None => Ok(span_from(span, offset, span.length)),
