@@ -9,6 +9,7 @@ use Rattle.cobol_syntax.specs.declared.place.Sub.{Sub}
 use Rattle.cobol_syntax.specs.declared.place.Sub.TheVariants as sub
 use Rattle.data_layout.specs.declared.item.Class.{Class}
 use Rattle.data_layout.specs.declared.item.Class.TheVariants as class
+use Rattle.data_layout.specs.declared.item.CondItem.{CondItem}
 use Rattle.data_layout.specs.declared.item.Item.{Item}
 use Rattle.data_layout.specs.declared.item.Layout.{Layout}
 use Rattle.data_layout.specs.declared.found.Found.{Found}
@@ -21,6 +22,7 @@ use Rattle.storage_places.specs.declared.access.Bound.{Bound}
 use Rattle.storage_places.specs.declared.access.Bound.TheVariants as bound
 use Rattle.storage_places.specs.declared.access.Cut.{Cut}
 use Rattle.storage_places.specs.declared.access.Access.{Access}
+use Rattle.storage_places.specs.declared.access.NamedAccess.{NamedAccess}
 use Rattle.storage_places.specs.Resolved as resolved
 use Rattle.storage_places.specs.Fits.{IsNumber, KindFits, TakesText, NumberFits, BoundFits, BoundIfFits, CutFits, Fits, ItemFits, LayoutFits, area_lengths}
 
@@ -116,6 +118,31 @@ module _ (l : Layout) (fit : LayoutFits l) where
 
   pub access-fits : (place : Place) (a : Access) → resolved.access_of l place ≡ Some a → Fits (first_area l.areas) (area_lengths l) a
   access-fits place a is = by-named place a (resolved.item_named l place.names) refl is
+
+  by-access : (place : Place) (number : ℕ) (n : NamedAccess) (o : Option Access) (item : Item) → ItemFits (first_area l.areas) (area_lengths l) item
+      → resolved.access_with item place.cut (resolved.bounds_of l place.subs) (resolved.cut_of l place.cut) ≡ o → resolved.numbered number o ≡ Some n → Fits (first_area l.areas) (area_lengths l) n.access
+  by-access place number n None item fits here is = absurd (none-some n is)
+  by-access place number n (Some a) item fits here is =
+      let whole : NamedAccess = record { name = number; access = a } in
+      let same : whole ≡ n = cc in
+      subst (λ (n : NamedAccess). Fits (first_area l.areas) (area_lengths l) n.access) same (by-parts place a item (resolved.bounds_of l place.subs) (resolved.cut_of l place.cut) fits refl refl here)
+
+  named-item : (place : Place) (number : ℕ) (k : ℕ) (o : Option Item) (n : NamedAccess) → slice_get l.items k ≡ o → resolved.numbered number (resolved.access_if l place o) ≡ Some n
+      → Fits (first_area l.areas) (area_lengths l) n.access
+  named-item place number k None n there is = absurd (none-some n is)
+  named-item place number k (Some item) n there is =
+      by-access place number n (resolved.access_with item place.cut (resolved.bounds_of l place.subs) (resolved.cut_of l place.cut)) item
+      (at-number (ItemFits (first_area l.areas) (area_lengths l)) l.items k item fit there) refl is
+
+  named-cond : (place : Place) (number : ℕ) (o : Option CondItem) (n : NamedAccess) → resolved.named_if l place number o ≡ Some n → Fits (first_area l.areas) (area_lengths l) n.access
+  named-cond place number None n is = absurd (none-some n is)
+  named-cond place number (Some c) n is = named-item place number c.item (slice_get l.items c.item) n refl is
+
+pub named-fits : {E : Type 0} (l : Layout) (place : Place) (number : ℕ) (r : Result (Option NamedAccess) E)
+    → IfOk r (λ named. named ≡ resolved.named_if l place number (slice_get l.conds number)) → LayoutFits l → IfOk r (λ named. IfSome named (λ n. Fits (first_area l.areas) (area_lengths l) n.access))
+named-fits l place number (Err e) is fit = record {}
+named-fits l place number (Ok None) is fit = record {}
+named-fits l place number (Ok (Some n)) is fit = named-cond l fit place number (slice_get l.conds number) n (sym is)
 
 pub resolved-fits : {E : Type 0} (l : Layout) (place : Place) (item : Item) (r : Result (Option Access) E) → resolved.item_named l place.names ≡ Some item
     → IfOk r (λ access. access ≡ resolved.access_if l place (Some item)) → LayoutFits l → IfOk r (λ access. IfSome access (Fits (first_area l.areas) (area_lengths l)))

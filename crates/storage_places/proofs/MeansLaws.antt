@@ -1,8 +1,9 @@
 -- A place that is resolved is at the same bytes as the place that it stands for.
 use Rattle.std.proofs.Common.{◌≡◌, ◌≢◌, ℕ, ◌+◌, ◌-◌, ◌*◌, List, [], ◌∷◌, map, refl, sym, ap, ◌∙◌, subst, Option, Some, None, ℤ}
-use Rattle.std.specs.Prelude.{IfOk, IfSome, Result, Ok, Err}
+use Rattle.std.specs.Prelude.{slice_get, slice_index_or, IfOk, IfSome, Result, Ok, Err}
 use Rattle.std.specs.List.{AllByRecursion}
-use Rattle.std.proofs.lemmas.Option.{none-some}
+use Rattle.std.specs.Option.{option_map}
+use Rattle.std.proofs.lemmas.Option.{none-some, slice_get-map, get_or_from_slice_get}
 use Rattle.y2k_base.specs.declared.picture.Picture.{Picture}
 use Rattle.y2k_base.specs.declared.place.Span.{Span}
 use Rattle.decimal_bytes.specs.declared.form.NumForm.{NumForm}
@@ -14,6 +15,7 @@ use Rattle.cobol_syntax.specs.declared.program.Program.{Program}
 use Rattle.cobol_syntax.specs.declared.program.Usage.{Usage}
 use Rattle.data_layout.specs.declared.item.Class.{Class}
 use Rattle.data_layout.specs.declared.item.Class.TheVariants as class
+use Rattle.data_layout.specs.declared.item.CondItem.{CondItem}
 use Rattle.data_layout.specs.declared.item.Item.{Item}
 use Rattle.data_layout.specs.declared.item.Step.{Step}
 use Rattle.data_layout.specs.declared.item.Layout.{Layout}
@@ -25,24 +27,26 @@ use Rattle.program_meaning.specs.Answer.{Answer, Gives, Fails, and_then, or_faul
 use Rattle.program_meaning.specs.Tree as tree
 use Rattle.program_meaning.specs.Kind as kind
 use Rattle.program_meaning.specs.Layout as meant
-use Rattle.program_meaning.specs.Layout.{item_of}
+use Rattle.program_meaning.specs.Layout.{item_of, cond_of}
 use Rattle.program_meaning.specs.Number.{value_of}
 use Rattle.program_meaning.specs.Storage.{Storage, View, read, decimal_in, within, subscript, occurrence, reference_from, cut_view, view_of, view, cut_kind, kind_meant, kind_of}
 use Rattle.tree_reading.specs.Reading.{read_sub, sub_if, part_if, read_place}
 use Rattle.layout_reading.specs.Kinds.{read_kind, kind_by}
 use Rattle.layout_reading.specs.Names.{unnamed}
 use Rattle.layout_reading.specs.Numbered.{AreNumbered}
-use Rattle.layout_reading.specs.Reading.{read_layout, read_item, read_span, read_step, first_area}
-use Rattle.layout_reading.specs.Told.{item_told}
+use Rattle.layout_reading.specs.Reading.{read_layout, read_item, read_cond, no_item, read_span, read_step, first_area}
+use Rattle.layout_reading.specs.Told.{item_told, cond_told}
 use Rattle.layout_reading.specs.Values.{values_of, value_at}
-use Rattle.layout_reading.proofs.Seen.{item-at}
+use Rattle.layout_reading.proofs.Seen.{item-at, read-at}
+use Rattle.layout_reading.proofs.Found.{cond-found}
 use Rattle.storage_places.specs.declared.access.Bound.{Bound}
 use Rattle.storage_places.specs.declared.access.Bound.TheVariants as bound
 use Rattle.storage_places.specs.declared.access.Cut.{Cut}
 use Rattle.storage_places.specs.declared.access.Access.{Access}
+use Rattle.storage_places.specs.declared.access.NamedAccess.{NamedAccess}
 use Rattle.storage_places.specs.Resolved as resolved
-use Rattle.storage_places.specs.Reached.{kind_with, span_from, bound_value, occurrence_at, reference_at, cut_at}
-use Rattle.storage_places.specs.Means.{IsAccess, StandsFor, IsWord, SubIsWord, LengthIsWord, CutIsWord, AreWords}
+use Rattle.storage_places.specs.Reached.{access_kind, kind_with, span_from, bound_value, occurrence_at, reference_at, cut_at}
+use Rattle.storage_places.specs.Means.{IsAccess, StandsFor, IsWord, SubIsWord, LengthIsWord, CutIsWord, AreWords, IsNamed, NamesFor}
 
 then-same : {A B : Type 0} (a : Answer A) (f g : A → Answer B) → ((x : A) → f x ≡ g x) → and_then a f ≡ and_then a g
 then-same (Gives x) f g same = same x
@@ -51,6 +55,18 @@ then-same (Fails e) f g same = refl
 then-then : {A B C : Type 0} (a : Answer A) (f : A → Answer B) (g : B → Answer C) → and_then (and_then a f) g ≡ and_then a (λ x. and_then (f x) g)
 then-then (Gives x) f g = refl
 then-then (Fails e) f g = refl
+
+abbrev cond_number : Found → Option ℕ
+cond_number (found.Item k) = None
+cond_number (found.Named k) = Some k
+cond_number found.Unknown = None
+cond_number found.Twice = None
+
+named-not-twice : (k : ℕ) → found.Named k ≢ found.Twice
+named-not-twice k is = none-some k (sym (ap cond_number is))
+
+unknown-not-named : (k : ℕ) → found.Unknown ≢ found.Named k
+unknown-not-named k is = none-some k (ap cond_number is)
 
 -- the item that a name means
 pub record IsItem (program : Program) (l : Layout) (names : List (List ℕ)) (item : Item) : Type 0 where
@@ -220,18 +236,25 @@ module _ (program : Program) (l : Layout) (ids : AreNumbered (first_area l.areas
       → kind_of (read_layout program l) (read_place place) ≡ kind_with (operand.kind_of_part place.cut (operand.kind_of_item item)) item.picture
   kind-of-whole place item named = ap (λ (o : Option meant.Item). kind_meant o (part_if place.cut)) named.is ∙ taken-as item place.cut
 
+  view-of-item : (place : Place) (item : Item) (v : Option tree.Operand) (subs : List Bound) (cut : Option Cut) (store : Storage) → AreWords place
+      → resolved.bounds_of l place.subs ≡ Some subs → resolved.cut_of l place.cut ≡ Some cut
+      → view_of (read_layout program l) store (read_item l item v) (read_place place)
+      ≡ and_then (and_then (occurrence_at (first_area l.areas) store item.steps subs item.span.offset) (λ o. cut_at (first_area l.areas) store item.span o cut)) (seen_at program l ids store place.cut item)
+  view-of-item place item v subs cut store words bounds cuts =
+      ap (λ (a : Answer ℕ). and_then a (λ o. cut_view (read_layout program l) store (read_item l item v) o (part_if place.cut)))
+      (occurrence-means program l ids store place.subs subs item.steps item.span.offset words.subs bounds)
+      ∙ then-same (occurrence_at (first_area l.areas) store item.steps subs item.span.offset) (λ o. cut_view (read_layout program l) store (read_item l item v) o (part_if place.cut))
+      (λ o. and_then (cut_at (first_area l.areas) store item.span o cut) (seen_at program l ids store place.cut item))
+      (λ o. cut-means program l ids store item v o place.cut cut words.cut cuts)
+      ∙ sym (then-then (occurrence_at (first_area l.areas) store item.steps subs item.span.offset) (λ o. cut_at (first_area l.areas) store item.span o cut) (seen_at program l ids store place.cut item))
+
   view-of-whole : (place : Place) (item : Item) (subs : List Bound) (cut : Option Cut) (store : Storage) → AreWords place → IsItem program l place.names item
       → resolved.bounds_of l place.subs ≡ Some subs → resolved.cut_of l place.cut ≡ Some cut
       → view (read_layout program l) store (read_place place)
       ≡ and_then (and_then (occurrence_at (first_area l.areas) store item.steps subs item.span.offset) (λ o. cut_at (first_area l.areas) store item.span o cut)) (seen_at program l ids store place.cut item)
   view-of-whole place item subs cut store words named bounds cuts =
       ap (λ (o : Option meant.Item). and_then (or_fault Range o) (λ i. view_of (read_layout program l) store i (read_place place))) named.is
-      ∙ ap (λ (a : Answer ℕ). and_then a (λ o. cut_view (read_layout program l) store (read_item l item named.value) o (part_if place.cut)))
-      (occurrence-means program l ids store place.subs subs item.steps item.span.offset words.subs bounds)
-      ∙ then-same (occurrence_at (first_area l.areas) store item.steps subs item.span.offset) (λ o. cut_view (read_layout program l) store (read_item l item named.value) o (part_if place.cut))
-      (λ o. and_then (cut_at (first_area l.areas) store item.span o cut) (seen_at program l ids store place.cut item))
-      (λ o. cut-means program l ids store item named.value o place.cut cut words.cut cuts)
-      ∙ sym (then-then (occurrence_at (first_area l.areas) store item.steps subs item.span.offset) (λ o. cut_at (first_area l.areas) store item.span o cut) (seen_at program l ids store place.cut item))
+      ∙ view-of-item place item named.value subs cut store words bounds cuts
 
   by-parts : (place : Place) (a : Access) (item : Item) (subs : Option (List Bound)) (cut : Option (Option Cut)) → AreWords place → IsItem program l place.names item
       → resolved.bounds_of l place.subs ≡ subs → resolved.cut_of l place.cut ≡ cut → resolved.access_with item place.cut subs cut ≡ Some a
@@ -250,6 +273,52 @@ module _ (program : Program) (l : Layout) (ids : AreNumbered (first_area l.areas
   by-named place a (Some item) words named is =
       by-parts place a item (resolved.bounds_of l place.subs) (resolved.cut_of l place.cut) words (item-named program l ids place.names item words.own named) refl refl is
 
+  -- a condition-name of this number, and its item
+  named-parts : (place : Place) (number : ℕ) (c : CondItem) (item : Item) (n : NamedAccess) (subs : Option (List Bound)) (cut : Option (Option Cut)) → AreWords place
+      → cond_of (read_layout program l) place.names ≡ Some (read_cond l (read_layout program l).items c) → slice_get l.conds number ≡ Some c → slice_get l.items c.item ≡ Some item
+      → resolved.bounds_of l place.subs ≡ subs → resolved.cut_of l place.cut ≡ cut → resolved.numbered number (resolved.access_with item place.cut subs cut) ≡ Some n
+      → IsNamed (first_area l.areas) (read_layout program l) (read_place place) n
+  named-parts place number c item n None cut words means here there bounds cuts is = absurd (none-some n is)
+  named-parts place number c item n (Some subs) None words means here there bounds cuts is = absurd (none-some n is)
+  named-parts place number c item n (Some subs) (Some cut) words means here there bounds cuts is =
+      let access : Access = record { kind = operand.kind_of_part place.cut (operand.kind_of_item item); picture = item.picture; span = item.span; steps = item.steps; subs = subs; cut = cut } in
+      let whole : NamedAccess = record { name = number; access = access } in
+      let same : whole ≡ n = cc in
+      let items : List meant.Item = (read_layout program l).items in
+      let v : Option tree.Operand = value_at (values_of program) c.item in
+      let its_item : slice_index_or items c.item no_item ≡ read_item l item v = get_or_from_slice_get items c.item (read_item l item v) no_item (read-at l l.items (values_of program) c.item item there) in
+      let at_number : slice_get (read_layout program l).conds number ≡ Some (read_cond l items c) = slice_get-map (read_cond l items) l.conds number ∙ ap (option_map (read_cond l items)) here in
+      let kind : cut_kind (part_if place.cut) (read_cond l items c).item.kind ≡ access_kind access = ap (λ (i : meant.Item). cut_kind (part_if place.cut) i.kind) its_item ∙ taken-as item place.cut in
+      subst (IsNamed (first_area l.areas) (read_layout program l) (read_place place)) same
+      (record {
+        cond = read_cond l items c;
+        means = means;
+        number = at_number;
+        kind = kind;
+        view = λ store. ap (λ (i : meant.Item). view_of (read_layout program l) store i (read_place place)) its_item ∙ view-of-item place item v subs cut store words bounds cuts;
+      })
+
+  named-item : (place : Place) (number : ℕ) (c : CondItem) (o : Option Item) (n : NamedAccess) → AreWords place
+      → cond_of (read_layout program l) place.names ≡ Some (read_cond l (read_layout program l).items c) → slice_get l.conds number ≡ Some c → slice_get l.items c.item ≡ o
+      → resolved.numbered number (resolved.access_if l place o) ≡ Some n → IsNamed (first_area l.areas) (read_layout program l) (read_place place) n
+  named-item place number c None n words means here there is = absurd (none-some n is)
+  named-item place number c (Some item) n words means here there is =
+      named-parts place number c item n (resolved.bounds_of l place.subs) (resolved.cut_of l place.cut) words means here there refl refl is
+
+  cond-named : (names : List (List ℕ)) (number : ℕ) (c : CondItem) → IsWord names → meaning l names ≡ found.Named number → slice_get l.conds number ≡ Some c
+      → cond_of (read_layout program l) names ≡ Some (read_cond l (read_layout program l).items c)
+  cond-named [] number c word means here = absurd (unknown-not-named number means)
+  cond-named (name ∷ qs) number c word means here =
+      let once : meaning l (name ∷ qs) ≢ found.Twice = λ twice. absurd (named-not-twice number (sym means ∙ twice)) in
+      cond-found program l (first_area l.areas) ids name qs word once ∙ ap (cond_told (read_layout program l).conds) means
+      ∙ slice_get-map (read_cond l (read_layout program l).items) l.conds number ∙ ap (option_map (read_cond l (read_layout program l).items)) here
+
+  named-cond : (place : Place) (number : ℕ) (o : Option CondItem) (n : NamedAccess) → AreWords place → meaning l place.names ≡ found.Named number → slice_get l.conds number ≡ o
+      → resolved.named_if l place number o ≡ Some n → IsNamed (first_area l.areas) (read_layout program l) (read_place place) n
+  named-cond place number None n words means here is = absurd (none-some n is)
+  named-cond place number (Some c) n words means here is =
+      named-item place number c (slice_get l.items c.item) n words (cond-named place.names number c words.own means here) here refl is
+
 -- a place that is resolved is what it stands for
 pub access-means : (l : Layout) (place : Place) (a : Access) → AreNumbered (first_area l.areas) l.areas → AreWords place → resolved.access_of l place ≡ Some a → StandsFor l place a
 access-means l place a ids words is = λ program. by-named program l ids place a (resolved.item_named l place.names) words refl is
@@ -261,3 +330,11 @@ resolved-means l place item (Err e) ids own named is subs cut = record {}
 resolved-means l place item (Ok None) ids own named is subs cut = record {}
 resolved-means l place item (Ok (Some a)) ids own named is subs cut =
     access-means l place a ids (record { own = own; subs = subs; cut = cut }) (ap (resolved.access_if l place) named ∙ sym is)
+
+pub named-means : {E : Type 0} (l : Layout) (place : Place) (number : ℕ) (r : Result (Option NamedAccess) E) → AreNumbered (first_area l.areas) l.areas → IsWord place.names
+    → meaning l place.names ≡ found.Named number → IfOk r (λ named. named ≡ resolved.named_if l place number (slice_get l.conds number))
+    → IfOk r (λ named. IfSome named (λ a. AllByRecursion SubIsWord place.subs)) → IfOk r (λ named. IfSome named (λ a. CutIsWord place.cut)) → IfOk r (λ named. IfSome named (NamesFor l place))
+named-means l place number (Err e) ids own means is subs cut = record {}
+named-means l place number (Ok None) ids own means is subs cut = record {}
+named-means l place number (Ok (Some n)) ids own means is subs cut = λ program.
+    named-cond program l ids place number (slice_get l.conds number) n (record { own = own; subs = subs; cut = cut }) means refl (sym is)

@@ -1,5 +1,5 @@
 -- What a resolved place stands for, and what resolving asks of names.
-use Rattle.std.specs.Prelude.{◌≡◌, ◌≢◌, ℕ, List, [], ◌∷◌, Option, Some, None}
+use Rattle.std.specs.Prelude.{◌≡◌, ◌≢◌, ℕ, List, [], ◌∷◌, Option, Some, None, slice_get}
 use Rattle.std.specs.List.{AllByRecursion}
 use Rattle.y2k_base.specs.declared.place.Span.{Span}
 use Rattle.cobol_syntax.specs.declared.place.Place.{Place}
@@ -10,12 +10,14 @@ use Rattle.cobol_syntax.specs.declared.program.Program.{Program}
 use Rattle.data_layout.specs.declared.item.Layout.{Layout}
 use Rattle.program_meaning.specs.Answer.{Gives, and_then}
 use Rattle.program_meaning.specs.Layout as meant
-use Rattle.program_meaning.specs.Storage.{Storage, View, view, kind_of}
+use Rattle.program_meaning.specs.Layout.{cond_of}
+use Rattle.program_meaning.specs.Storage.{Storage, View, view, view_of, kind_of, cut_kind}
 use Rattle.program_meaning.specs.Tree as tree
 use Rattle.tree_reading.specs.Reading.{read_place}
 use Rattle.layout_reading.specs.Names.{unnamed}
 use Rattle.layout_reading.specs.Reading.{read_layout, read_span, first_area}
 use Rattle.storage_places.specs.declared.access.Access.{Access}
+use Rattle.storage_places.specs.declared.access.NamedAccess.{NamedAccess}
 use Rattle.storage_places.specs.declared.fault.RunFault.{RunFault}
 use Rattle.storage_places.specs.Meets.{Meets}
 use Rattle.storage_places.specs.Reached.{access_kind, span_at}
@@ -32,6 +34,17 @@ pub record IsAccess (first : ℕ) (layout : meant.Layout) (place : tree.Place) (
 -- the same in the layout of any program
 abbrev pub StandsFor : Layout → Place → Access → Type 0
 StandsFor l place a = (program : Program) → IsAccess (first_area l.areas) (read_layout program l) (read_place place) a
+
+-- the item of a condition-name, which has this number in the layout, stands for that of a place
+pub record IsNamed (first : ℕ) (layout : meant.Layout) (place : tree.Place) (named : NamedAccess) : Type 0 where
+  pub cond : meant.CondName
+  pub means : cond_of layout place.names ≡ Some cond
+  pub number : slice_get layout.conds named.name ≡ Some cond
+  pub kind : cut_kind place.cut cond.item.kind ≡ access_kind named.access
+  pub view : (store : Storage) → view_of layout store cond.item place ≡ and_then (span_at first store named.access) (λ span. Gives (view_with first named.access span))
+
+abbrev pub NamesFor : Layout → Place → NamedAccess → Type 0
+NamesFor l place named = (program : Program) → IsNamed (first_area l.areas) (read_layout program l) (read_place place) named
 
 -- names are bytes, so none is that which the meaning gives FILLER
 abbrev pub IsWord : List (List ℕ) → Type 0

@@ -1,5 +1,5 @@
 -- Places with their names resolved.
-use Rattle.std.specs.Prelude.{ℕ, List, [], ◌∷◌, Option, Some, None}
+use Rattle.std.specs.Prelude.{ℕ, List, [], ◌∷◌, Option, Some, None, slice_get}
 use Rattle.cobol_syntax.specs.declared.place.Place.{Place}
 use Rattle.cobol_syntax.specs.declared.place.Part.{Part}
 use Rattle.cobol_syntax.specs.declared.place.Sub.{Sub}
@@ -7,7 +7,10 @@ use Rattle.cobol_syntax.specs.declared.place.Sub.TheVariants as sub
 use Rattle.data_layout.specs.declared.item.Class.{Class}
 use Rattle.data_layout.specs.declared.item.Class.TheVariants as class
 use Rattle.data_layout.specs.declared.item.Item.{Item}
+use Rattle.data_layout.specs.declared.item.CondItem.{CondItem}
 use Rattle.data_layout.specs.declared.item.Layout.{Layout}
+use Rattle.data_layout.specs.declared.found.Found.{Found}
+use Rattle.data_layout.specs.declared.found.Found.TheVariants as found
 use Rattle.data_layout.specs.Find.{meaning}
 use Rattle.operand_kinds.specs.Kinds.{kind_of_item, kind_of_part}
 use Rattle.layout_reading.specs.Told.{item_told}
@@ -15,6 +18,7 @@ use Rattle.storage_places.specs.declared.access.Bound.{Bound}
 use Rattle.storage_places.specs.declared.access.Bound.TheVariants as bound
 use Rattle.storage_places.specs.declared.access.Cut.{Cut}
 use Rattle.storage_places.specs.declared.access.Access.{Access}
+use Rattle.storage_places.specs.declared.access.NamedAccess.{NamedAccess}
 
 -- a number gives a bound, and nothing else does
 abbrev pub bound_by : Class → Item → Option Bound
@@ -54,6 +58,10 @@ access_with item part (Some subs) (Some cut) = Some (record {
   cut = cut;
 })
 
+abbrev pub numbered : ℕ → Option Access → Option NamedAccess
+numbered number None = None
+numbered number (Some a) = Some (record { name = number; access = a })
+
 module _ (layout : Layout) where
   -- the item that a name means
   abbrev pub item_named : List (List ℕ) → Option Item
@@ -82,3 +90,18 @@ module _ (layout : Layout) where
   -- a place, if its names mean one item each and those of its subscripts and its reference are numbers
   abbrev pub access_of : Place → Option Access
   access_of place = access_if place (item_named place.names)
+
+  -- the item of a condition-name, with its number
+  abbrev pub named_if : Place → ℕ → Option CondItem → Option NamedAccess
+  named_if place number None = None
+  named_if place number (Some c) = numbered number (access_if place (slice_get layout.items c.item))
+
+  abbrev pub named_by : Place → Found → Option NamedAccess
+  named_by place (found.Item k) = None
+  named_by place (found.Named k) = named_if place k (slice_get layout.conds k)
+  named_by place found.Unknown = None
+  named_by place found.Twice = None
+
+  -- a place whose name means a condition-name: the item for which that stands, by the subscripts of the place
+  abbrev pub named_of : Place → Option NamedAccess
+  named_of place = named_by place (meaning layout place.names)

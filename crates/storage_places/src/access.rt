@@ -40,6 +40,21 @@ pub struct Access {
     pub cut: Option<Cut>,
 }
 
+/// The item of a condition-name, whose number in the layout is `name`.
+pub struct NamedAccess {
+    pub name: u32,
+    pub access: Access,
+}
+
+impl Drop for NamedAccess {
+    fn drop(self) {
+        let NamedAccess {
+            name: _,
+            access: _access,
+        } = self;
+    }
+}
+
 impl Drop for Access {
     fn drop(self) {
         let Access {

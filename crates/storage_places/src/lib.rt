@@ -9,8 +9,8 @@ mod reaching;
 mod resolving;
 mod storage;
 
-pub use access::{Access, Bound, Cut, NumberItem};
+pub use access::{Access, Bound, Cut, NamedAccess, NumberItem};
 pub use fault::RunFault;
 pub use fitting::layout_fits;
-pub use resolving::resolve;
+pub use resolving::{resolve, resolve_named};
 pub use storage::Storage;

@@ -1,4 +1,4 @@
-ghost use Rattle.std.specs.Prelude.{◌≡◌, ◌≢◌, Some, IfOk, IfSome, option_map};
+ghost use Rattle.std.specs.Prelude.{◌≡◌, ◌≢◌, Some, IfOk, IfSome, option_map, slice_get};
 ghost use Rattle.std.specs.List.{AllByRecursion};
 ghost use Rattle.data_layout.specs.Index.{IsReady};
 ghost use Rattle.layout_reading.specs.Names.{unnamed};
@@ -6,13 +6,13 @@ ghost use Rattle.layout_reading.specs.Numbered.{AreNumbered};
 ghost use Rattle.layout_reading.specs.Reading.{first_area};
 ghost use Rattle.operand_kinds.specs.Kinds as kinds;
 ghost use Rattle.storage_places.specs.Fits.{Fits, LayoutFits, area_lengths};
-ghost use Rattle.storage_places.specs.Means.{StandsFor, IsWord, SubIsWord, LengthIsWord, CutIsWord};
+ghost use Rattle.storage_places.specs.Means.{StandsFor, NamesFor, IsWord, SubIsWord, LengthIsWord, CutIsWord};
 ghost use Rattle.storage_places.specs.Resolved as spec;
 ghost use Rattle.storage_places.specs.Resolved.{access_of};
 
-use crate::access::{Access, Bound, Cut, NumberItem};
+use crate::access::{Access, Bound, Cut, NamedAccess, NumberItem};
 use cobol_syntax::{Part, Place, Sub};
-use data_layout::{Class, Found, Item, Layout};
+use data_layout::{Class, CondItem, Found, Item, Layout};
 use operand_kinds::{Kind, kind_of_item};
 use std::alloc::Global;
 use y2k_base::{Bytes, List, Memory, Twin};
@@ -28,6 +28,60 @@ pub fn resolve(alloc: Global, layout: &Layout, place: &Place) -> Result<Option<A
 {
     match item_named(layout, place.names.items()) {
         Some(item) => access_to(alloc, layout, item, place),
+        None => Ok(None),
+    }
+}
+
+/// The item of a condition-name, at the subscripts of a place that means the name. There is none where the name means
+/// no condition-name, or several things, or where a subscript's name means no number.
+pub fn resolve_named(alloc: Global, layout: &Layout, place: &Place) -> Result<Option<NamedAccess>, Memory>
+    requires ready { IsReady layout.now }
+    requires numbered { AreNumbered (first_area layout.now.areas) layout.now.areas }
+    ensures access { IfOk result (λ named. named ≡ spec.named_of layout.now place.now) }
+    ensures means { IfOk result (λ named. IfSome named (NamesFor layout.now place.now)) }
+    ensures fits { LayoutFits layout.now → IfOk result (λ named. IfSome named (λ a. Fits (first_area layout.now.areas) (area_lengths layout.now) a.access)) }
+{
+    are_words(place.names.items());
+    match layout.find(place.names.items()) {
+        Found::Named(number) => named_access(alloc, layout, number, place),
+        Found::Item(_) => Ok(None),
+        Found::Unknown => Ok(None),
+        Found::Twice => Ok(None),
+    }
+}
+
+fn named_access(alloc: Global, layout: &Layout, number: u32, place: &Place) -> Result<Option<NamedAccess>, Memory>
+    requires { IsReady layout.now }
+    ensures access { IfOk result (λ named. named ≡ spec.named_if layout.now place.now number (slice_get layout.now.conds number)) }
+    ensures subs { IfOk result (λ named. IfSome named (λ a. AllByRecursion SubIsWord place.now.subs)) }
+    ensures cut { IfOk result (λ named. IfSome named (λ a. CutIsWord place.now.cut)) }
+{
+    match layout.conds.items().get(number as usize) {
+        Some(cond) => numbered_access(alloc, layout, number, cond, place),
+        None => Ok(None),
+    }
+}
+
+fn numbered_access(
+    alloc: Global,
+    layout: &Layout,
+    number: u32,
+    cond: &CondItem,
+    place: &Place,
+) -> Result<Option<NamedAccess>, Memory>
+    requires { IsReady layout.now }
+    ensures access { IfOk result (λ named. named ≡ spec.named_if layout.now place.now number (Some cond.now)) }
+    ensures subs { IfOk result (λ named. IfSome named (λ a. AllByRecursion SubIsWord place.now.subs)) }
+    ensures cut { IfOk result (λ named. IfSome named (λ a. CutIsWord place.now.cut)) }
+{
+    match layout.items.items().get(cond.item as usize) {
+        Some(item) => match access_to(alloc, layout, item, place)? {
+            Some(access) => Ok(Some(NamedAccess {
+                name: number,
+                access,
+            })),
+            None => Ok(None),
+        },
         None => Ok(None),
     }
 }
