@@ -54,7 +54,7 @@ module _ (l : Layout) (fit : LayoutFits l) where
       let there : Bound = bound.Number (record { span = item.span; usage = item.usage; form = item.form }) in
       let same : there ≡ b = cc in
       let number : IsNumber item.usage item.form item.span.length =
-          subst (λ (c : Class). KindFits (operand.kind_of c item.usage item.form) item.picture item.span.length) is fits.kind in
+      subst (λ (c : Class). KindFits (operand.kind_of c item.usage item.form) item.picture item.span.length) is fits.kind in
       subst (BoundFits (first_area l.areas) (area_lengths l)) same (record { within = fits.first_occurrence; number = number })
 
   by-item : (names : List (List ℕ)) (b : Bound) (o : Option Item) → resolved.item_named l names ≡ o → resolved.bound_if o ≡ Some b → BoundFits (first_area l.areas) (area_lengths l) b

@@ -8,6 +8,8 @@ mod fitting;
 mod reaching;
 mod resolving;
 mod storage;
+#[cfg(test)]
+mod tests;
 
 pub use access::{Access, Bound, Cut, NamedAccess, NumberItem};
 pub use fault::RunFault;

@@ -34,7 +34,11 @@ pub fn resolve(alloc: Global, layout: &Layout, place: &Place) -> Result<Option<A
 
 /// The item of a condition-name, at the subscripts of a place that means the name. There is none where the name means
 /// no condition-name, or several things, or where a subscript's name means no number.
-pub fn resolve_named(alloc: Global, layout: &Layout, place: &Place) -> Result<Option<NamedAccess>, Memory>
+pub fn resolve_named(
+    alloc: Global,
+    layout: &Layout,
+    place: &Place,
+) -> Result<Option<NamedAccess>, Memory>
     requires ready { IsReady layout.now }
     requires numbered { AreNumbered (first_area layout.now.areas) layout.now.areas }
     ensures access { IfOk result (λ named. named ≡ spec.named_of layout.now place.now) }
@@ -50,7 +54,12 @@ pub fn resolve_named(alloc: Global, layout: &Layout, place: &Place) -> Result<Op
     }
 }
 
-fn named_access(alloc: Global, layout: &Layout, number: u32, place: &Place) -> Result<Option<NamedAccess>, Memory>
+fn named_access(
+    alloc: Global,
+    layout: &Layout,
+    number: u32,
+    place: &Place,
+) -> Result<Option<NamedAccess>, Memory>
     requires { IsReady layout.now }
     ensures access { IfOk result (λ named. named ≡ spec.named_if layout.now place.now number (slice_get layout.now.conds number)) }
     ensures subs { IfOk result (λ named. IfSome named (λ a. AllByRecursion SubIsWord place.now.subs)) }

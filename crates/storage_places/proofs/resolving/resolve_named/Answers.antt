@@ -10,7 +10,7 @@ use Rattle.storage_places.proofs.resolving.resolve_named.Goals as goal
 pub returns-in-Named-clause-means : goal.returns-in-Named-clause-means
 returns-in-Named-clause-means c =
     let means : meaning c.args.layout.now c.args.place.now.names ≡ found.Named c.in-Named.number =
-        ap (meaning c.args.layout.now) (sym c.items-2.ensures) ∙ sym c.find.ensures ∙ c.in-Named.is in
+    ap (meaning c.args.layout.now) (sym c.items-2.ensures) ∙ sym c.find.ensures ∙ c.in-Named.is in
     named-means c.args.layout.now c.args.place.now c.in-Named.number c.named_access.result c.requires.numbered (subst IsWord c.items.ensures c.are_words.ensures) means
     c.named_access.ensures.access c.named_access.ensures.subs c.named_access.ensures.cut
 
