@@ -10,6 +10,7 @@ use Rattle.data_layout.specs.Tree.{Forest, nothing, node}
 use Rattle.data_layout.specs.Sizes.{is_named}
 use Rattle.data_layout.specs.Sections.{files_areas, next_area, after_files, storage_areas, own_areas, storage_area, owners_from, owners_after, tops, areas_of, IsLayout}
 use Rattle.layout_reading.specs.Numbered.{AreNumbered}
+use Rattle.layout_reading.specs.Reading.{first_area}
 
 pub append-numbered : (n : ℕ) (xs ys : List Area) → AreNumbered n xs → AreNumbered (n + length xs) ys → AreNumbered n (xs ++ ys)
 append-numbered n [] ys front back = subst (λ (m : ℕ). AreNumbered m ys) (omega arith) back
@@ -49,3 +50,11 @@ areas-numbered first program =
 
 pub numbered : (first : AreaId) (program : Program) (layout : Layout) → IsLayout first program layout → AreNumbered first.0 layout.areas
 numbered first program layout is = subst (AreNumbered first.0) (sym is.areas) (areas-numbered first program)
+
+own-first : (areas : List Area) (n : ℕ) → AreNumbered n areas → AreNumbered (first_area areas) areas
+own-first [] n ids = tt
+own-first (area ∷ areas) n ids = subst (λ (m : ℕ). AreNumbered m (area ∷ areas)) (sym ids.0) ids
+
+-- from the number of its first area on
+pub laid-numbered : (first : AreaId) (program : Program) (layout : Layout) → IsLayout first program layout → AreNumbered (first_area layout.areas) layout.areas
+laid-numbered first program layout is = own-first layout.areas first.0 (numbered first program layout is)

@@ -1,0 +1,3 @@
+pub mod FitLaws
+pub mod HeldLaws
+pub mod MeansLaws

@@ -1,0 +1,6 @@
+pub mod Fits
+pub mod Held
+pub mod Means
+pub mod Meets
+pub mod Reached
+pub mod Resolved

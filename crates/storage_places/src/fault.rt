@@ -1,0 +1,11 @@
+/// Why a step of a run can't be done: bytes that hold no number are used as one; a subscript or a reference leaves
+/// its item; a divisor is 0 and there is no size phrase; a number leaves 128 bits or a scale passes 38; or want of
+/// memory.
+#[derive(Clone, Copy, Debug, PartialEq, Eq)]
+pub enum RunFault {
+    Data,
+    Range,
+    Zero,
+    Wide,
+    Memory,
+}
