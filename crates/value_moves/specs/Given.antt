@@ -1,5 +1,5 @@
 -- What a sender gives, in the code and in the meaning of programs.
-use Rattle.std.specs.Prelude.{◌≡◌, ℕ, List, Result, Ok, Err}
+use Rattle.std.specs.Prelude.{◌≡◌, Result, Ok, Err}
 use Rattle.decimal_bytes.specs.declared.form.Scaled.{Scaled}
 use Rattle.program_meaning.specs.Answer.{Answer, Gives, Fails, Data}
 use Rattle.program_meaning.specs.Number.{Decimal}

@@ -39,7 +39,12 @@ pub fn receive_number(sent: &Sent, usage: Usage, form: NumForm, into: &mut [u8])
 {
     match sent {
         Sent::Bytes(bytes) => copy_text(bytes.items(), into),
-        Sent::Amount(amount) => store_number(at_point(amount.number, form.scale), usage, form, into),
+        Sent::Amount(amount) => store_number(
+            at_point(amount.number, form.scale),
+            usage,
+            form,
+            into,
+        ),
         Sent::Fill(byte) => fill(*byte, into),
     }
 }

@@ -84,12 +84,7 @@ fn number_amount(bytes: &[u8], usage: Usage, form: NumForm) -> Result<Sent, Move
     }
 }
 
-fn number_text(
-    alloc: Global,
-    bytes: &[u8],
-    usage: Usage,
-    form: NumForm,
-) -> Result<Sent, MoveFault>
+fn number_text(alloc: Global, bytes: &[u8], usage: Usage, form: NumForm) -> Result<Sent, MoveFault>
     requires some_digits { 1 ≤ form.digits }
     requires at_most_18 { form.digits ≤ 18 }
     requires length { length bytes.now ≡ number_length usage form }
@@ -181,7 +176,10 @@ pub fn send_figure(byte: u8, to: Receiver) -> Sent
 {
     match to {
         Receiver::Aligned => Sent::Amount(Amount {
-            number: Scaled { number: 0, scale: 0 },
+            number: Scaled {
+                number: 0,
+                scale: 0,
+            },
         }),
         Receiver::Group => Sent::Fill(byte),
         Receiver::Text => Sent::Fill(byte),
