@@ -3,6 +3,12 @@
 
 mod command;
 #[cfg(test)]
+mod fixture;
+#[cfg(test)]
+mod manifest_tests;
+#[cfg(test)]
+mod order_tests;
+#[cfg(test)]
 mod portfolio_tests;
 #[cfg(test)]
 mod tests;
