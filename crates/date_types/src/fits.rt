@@ -22,7 +22,8 @@ fn is_fit_view(view: &View) -> bool
     }
 }
 
-fn is_fit(form: &RuleForm) -> bool
+/// Whether the spans and views of a rule are such as spreading labels asks for.
+pub fn is_fit(form: &RuleForm) -> bool
     ensures { IsTrue result ↔ IsFit form.now }
 {
     match form {

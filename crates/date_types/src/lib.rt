@@ -10,5 +10,8 @@ mod tables;
 mod tests;
 mod whole;
 
+pub use fits::is_fit;
+pub use pictures::add_pictures;
+pub use tables::{add_files, add_tables};
 pub use whole::rules_of;
 pub use year_labels::{Fact, Label, Labelling, Role, Rule, RuleForm, RuleInst, Seed, View, unlike};

@@ -231,7 +231,7 @@ fn add_ties(
 }
 
 /// Adds that items with one PICTURE word are alike.
-pub(crate) fn add_pictures(
+pub fn add_pictures(
     alloc: Global,
     rules: &mut List<RuleInst>,
     programs: &[Program],

@@ -112,7 +112,7 @@ fn add_table_of(
 }
 
 /// Adds that the occurrences of each item with OCCURS are alike.
-pub(crate) fn add_tables(
+pub fn add_tables(
     rules: &mut List<RuleInst>,
     words: &[Word],
     items: &[Item],
@@ -240,7 +240,7 @@ fn add_file(
 }
 
 /// Adds that the records of one file are alike in all programs.
-pub(crate) fn add_files(
+pub fn add_files(
     rules: &mut List<RuleInst>,
     portfolio: &Portfolio,
     files: &[FileUse],

@@ -12,7 +12,7 @@ use y2k_base::{List, Memory, Origin};
 use year_labels::RuleInst;
 
 /// The operand that an expression without an operator or a sign is.
-fn single(expr: &Expr) -> Option<&Operand>
+pub fn single(expr: &Expr) -> Option<&Operand>
     ensures { MatchOption result (single_of (tree_of expr.now) ≡ None) (λ x. single_of (tree_of expr.now) ≡ Some x.now) }
 {
     match expr {

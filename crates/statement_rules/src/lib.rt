@@ -5,5 +5,9 @@ mod conditions;
 mod names;
 mod statements;
 
-pub use names::{add_place, add_place_use};
-pub use statements::{add_statement, add_statements, area_span, origin_at};
+pub use conditions::single;
+pub use names::{add_place, add_place_use, operand_side};
+pub use statements::{
+    add_copy_if, add_move_if, add_statement, add_statements, area_span, file_side, origin_at,
+    record_side,
+};

@@ -240,7 +240,7 @@ pub(crate) fn add_operand(
 }
 
 /// The side that an operand is; a literal is none.
-pub(crate) fn operand_side(
+pub fn operand_side(
     alloc: Global,
     layout: &Layout,
     operand: &Operand,

@@ -29,7 +29,8 @@ pub fn origin_at(words: &[Word], at: u32) -> Origin
     }
 }
 
-fn add_move_if(
+/// Adds the rules of a move, if both are sides.
+pub fn add_move_if(
     alloc: Global,
     rules: &mut List<RuleInst>,
     at: Origin,
@@ -52,7 +53,8 @@ fn add_move_if(
     }
 }
 
-fn add_copy_if(
+/// Adds the rules of a copy of bytes, if both are sides.
+pub fn add_copy_if(
     alloc: Global,
     rules: &mut List<RuleInst>,
     at: Origin,
@@ -159,7 +161,7 @@ pub fn area_span(area: &Area) -> Span
 }
 
 /// The record area of a file.
-fn file_side(alloc: Global, areas: &[Area], name: &[u8]) -> Result<Option<Side>, Memory>
+pub fn file_side(alloc: Global, areas: &[Area], name: &[u8]) -> Result<Option<Side>, Memory>
     ensures { IfOk result (λ side. side ≡ spec.file_side areas.now name.now) }
 {
     let mut rest = areas;
@@ -174,7 +176,7 @@ fn file_side(alloc: Global, areas: &[Area], name: &[u8]) -> Result<Option<Side>,
 }
 
 /// The record that WRITE names, as a group.
-fn record_side(alloc: Global, layout: &Layout, name: &Bytes) -> Result<Option<Side>, Memory>
+pub fn record_side(alloc: Global, layout: &Layout, name: &Bytes) -> Result<Option<Side>, Memory>
     requires { IsReady layout.now }
     ensures { IfOk result (λ side. side ≡ spec.record_side layout.now name.now) }
 {

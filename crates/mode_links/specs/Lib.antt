@@ -1,0 +1,4 @@
+pub mod Bridges
+pub mod Conditions
+pub mod Statements
+pub mod Whole
