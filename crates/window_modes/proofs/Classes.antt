@@ -7,7 +7,6 @@ use Rattle.std.proofs.Math.ListN.{set, length-set}
 use Rattle.std.proofs.lemmas.Option.{slice_get_within, slice_get-get_or}
 use Rattle.std.proofs.lemmas.List.Elements.{Contains-append_left, Contains-append_right, Contains-append_cases, Contains-push, Contains-push_cases}
 use Rattle.std.proofs.lemmas.Bool.Decides.{eqb_tells}
-use Rattle.y2k_base.specs.declared.place.BytePlace.{BytePlace}
 use Rattle.y2k_base.specs.declared.place.Span.{Span}
 use Rattle.year_labels.specs.declared.rule.RuleForm.{RuleForm}
 use Rattle.year_pairs.specs.declared.year.Year.{Year}
@@ -18,8 +17,8 @@ use Rattle.window_modes.specs.declared.marks.Mark.{Mark}
 use Rattle.window_modes.specs.declared.modes.WindowGroup.{WindowGroup}
 use Rattle.window_modes.specs.declared.modes.YearMode.{YearMode}
 use Rattle.window_modes.specs.Links.{HasByte, IsLinked}
-use Rattle.window_modes.specs.Modes.{OfYear, AreLinked, IsClosed, IsOfItem, Holds, IsInSet, IsPivotOf, HasClash, IsModeOf, AreModesOf}
-use Rattle.window_modes.specs.Work.{byte_at, IsIndexOf, Joins, Between, hit, Marks, AreWithin, AreClassesOf, HasClassIn, HasClass, AreNumbered, AreMarked, mode_by, AreOfMarks, AreMarkedModes}
+use Rattle.window_modes.specs.Modes.{OfYear, IsClosed, IsOfItem, Holds, IsInSet, IsPivotOf, HasClash, IsModeOf, AreModesOf}
+use Rattle.window_modes.specs.Work.{byte_at, IsIndexOf, Joins, Between, hit, Marks, AreClassesOf, HasClassIn, HasClass, AreMarked, mode_by, AreOfMarks, AreMarkedModes}
 
 pub classes : (years : List Year) (links : List RuleForm) (old new names : List ℕ) → length old ≡ length years → ((keep : ℕ → Bool) → IsKept old keep) → Joins (Between years (IsLinked links)) old new → AreNamesOf new names → AreClassesOf years links names
 classes years links old new names long apart joins named =

@@ -1,5 +1,5 @@
 -- Bytes of years in a sorted set: their order, and those of a span.
-use Rattle.std.proofs.Common.{cond, ◌≡◌, ◌⊎◌, ◌↔◌, inl, inr, arith, ℕ, ◌+◌, ◌-◌, ◌<◌, ◌≤◌, Bool, true, false, not, ◌&&◌, List, [], ◌∷◌, length, take, get_or, slice_get, refl, sym, ap, ◌∙◌, subst, Contains, Option, Some, None}
+use Rattle.std.proofs.Common.{cond, ◌≡◌, ◌⊎◌, ◌↔◌, inl, inr, arith, ℕ, ◌+◌, ◌-◌, ◌<◌, ◌≤◌, Bool, true, false, not, ◌&&◌, List, [], ◌∷◌, length, slice_get, refl, sym, ap, ◌∙◌, subst, Contains, Some}
 use Rattle.std.specs.declared.cmp.Ordering.{Ordering}
 use Rattle.std.specs.declared.cmp.Ordering.TheVariants.{Less, Equal, Greater}
 use Rattle.std.specs.Ordering.{nat_cmp, ordering_then, MatchOrdering, is_le}
@@ -10,10 +10,8 @@ use Rattle.std.proofs.lemmas.Cmp.{ranked}
 use Rattle.std.proofs.lemmas.Map.Lookups.{exact_unsigned}
 use Rattle.std.proofs.lemmas.Option.{slice_get_within}
 use Rattle.std.proofs.lemmas.List.Elements.{Contains-append_left, Contains-append_right, Contains-append_cases, Contains-push, Contains-push_cases}
-use Rattle.y2k_base.specs.declared.place.AreaId.{AreaId}
 use Rattle.y2k_base.specs.declared.place.BytePlace.{BytePlace}
 use Rattle.y2k_base.specs.declared.place.Span.{Span}
-use Rattle.year_labels.specs.Facts.{place_in}
 use Rattle.year_labels.proofs.Keys.{insert_key-new, insert_key-old, insert_key-cases}
 use Rattle.year_pairs.specs.declared.year.Year.{Year}
 use Rattle.year_pairs.specs.Years.{width, place_after}
@@ -21,7 +19,6 @@ use Rattle.label_spread.specs.Steps.{IsInSpan}
 use Rattle.window_modes.specs.declared.index.YearByte.{YearByte}
 use Rattle.window_modes.specs.contracts.index.YearByteOrd.TheImpl as derived
 use Rattle.window_modes.specs.Links.{HasByte}
-use Rattle.window_modes.specs.Modes.{OfYear}
 use Rattle.window_modes.specs.Work.{byte_cmp, byte_at, is_between, bytes_between, IsIndexOf, IsIndexUpTo, HasBytesUpTo}
 
 pub same_cmp : (a b : YearByte) → derived.ghosts.cmp a b ≡ byte_cmp a b

@@ -9,7 +9,6 @@ use Rattle.year_labels.specs.declared.rule.View.TheVariants as views
 use Rattle.year_labels.specs.Facts.{place_in}
 use Rattle.year_labels.specs.Roles.{HoldsPower}
 use Rattle.year_pairs.specs.declared.year.Year.{Year}
-use Rattle.year_pairs.specs.declared.year.YearKind.{YearKind}
 use Rattle.year_pairs.specs.declared.year.YearKind.TheVariants as kinds
 use Rattle.year_pairs.specs.Years.{width, place_after}
 

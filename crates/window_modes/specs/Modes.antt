@@ -1,5 +1,5 @@
 -- The sets of window groups, and the modes that they give. A set of years is a test of their numbers in a list.
-use Rattle.std.specs.Prelude.{◌≡◌, ◌⊎◌, ◌↔◌, ℕ, ◌<◌, ◌≤◌, Bool, IsTrue, List, [], ◌∷◌, length, slice_get, slice_index_or, map, Option, Some, None, Contains}
+use Rattle.std.specs.Prelude.{◌≡◌, ◌⊎◌, ◌↔◌, ℕ, ◌<◌, ◌≤◌, Bool, IsTrue, List, [], ◌∷◌, length, slice_get, slice_index_or, Option, Some, None, Contains}
 use Rattle.y2k_base.specs.declared.place.BytePlace.{BytePlace}
 use Rattle.y2k_base.specs.declared.place.Span.{Span}
 use Rattle.year_labels.specs.declared.rule.RuleForm.{RuleForm}

@@ -1,5 +1,5 @@
 -- What the steps do: bytes of years by place, years joined by links, classes of years marked by groups.
-use Rattle.std.specs.Prelude.{◌≡◌, ◌⊎◌, ◌↔◌, ℕ, ◌+◌, ◌<◌, Bool, true, false, ◌||◌, not, ◌==◌, IsTrue, List, [], ◌∷◌, length, slice_get, slice_index, slice_index_or, Option, Some, None, Contains}
+use Rattle.std.specs.Prelude.{◌≡◌, ◌⊎◌, ◌↔◌, ℕ, ◌+◌, ◌<◌, Bool, false, ◌||◌, not, ◌==◌, List, [], ◌∷◌, length, slice_index, slice_index_or, Option, Some, None, Contains}
 use Rattle.std.specs.List.{filter}
 use Rattle.std.specs.declared.cmp.Ordering.{Ordering}
 use Rattle.std.specs.declared.ops.Bound.TheVariants.{Included, Excluded}

@@ -1,5 +1,4 @@
-use Rattle.std.proofs.Common.{◌≡◌, ℕ, Option, List, [], arith, sym, subst}
-use Rattle.std.proofs.lemmas.List.{get_or_default}
+use Rattle.std.proofs.Common.{ℕ, Option, List, arith, sym, subst}
 use Rattle.window_modes.specs.declared.index.YearByte.{YearByte}
 use Rattle.window_modes.specs.declared.digits.YearDigit.{YearDigit}
 use Rattle.window_modes.specs.Work.{IsPairDigit, AddsDigits}

@@ -1,5 +1,4 @@
-use Rattle.std.proofs.Common.{◌≡◌, List, [], arith, refl, sym, subst}
-use Rattle.std.proofs.lemmas.List.{get_or_default}
+use Rattle.std.proofs.Common.{List, arith, refl, sym, subst}
 use Rattle.window_modes.specs.declared.digits.YearDigit.{YearDigit}
 use Rattle.window_modes.specs.Work.{IsPackedDigit}
 use Rattle.window_modes.proofs.Found.{Collected, collected-none, collected-more, collected-all, digits_in_packed}

@@ -1,4 +1,4 @@
-use Rattle.std.proofs.Common.{◌≡◌, ◌<◌, ℕ, length, arith, Contains, subst, List}
+use Rattle.std.proofs.Common.{◌≡◌, ℕ, arith, Contains, subst, List}
 use Rattle.window_modes.specs.declared.digits.YearDigit.{YearDigit}
 use Rattle.window_modes.specs.Work.{Joins}
 use Rattle.window_modes.proofs.Found.{aligned, digit_numbered}

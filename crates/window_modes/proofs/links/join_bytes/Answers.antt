@@ -1,8 +1,7 @@
-use Rattle.std.proofs.Common.{◌≡◌, ◌<◌, ℕ, length, arith, Contains, get_or}
+use Rattle.std.proofs.Common.{◌≡◌, ℕ, arith}
 use Rattle.std.proofs.lemmas.List.{get_or_default}
 use Rattle.std.proofs.lemmas.List.Elements.{Contains-get_or}
 use Rattle.window_modes.specs.declared.index.YearByte.{YearByte}
-use Rattle.window_modes.specs.Work.{byte_at}
 use Rattle.window_modes.proofs.Joined.{over-more, over-all}
 use Rattle.window_modes.proofs.links.join_bytes.Goals as goal
 

@@ -1,4 +1,4 @@
-use Rattle.std.proofs.Common.{arith, ℕ}
+use Rattle.std.proofs.Common.{arith}
 use Rattle.year_labels.specs.declared.rule.RuleForm.{RuleForm}
 use Rattle.window_modes.specs.Links.{IsLink}
 use Rattle.window_modes.specs.Work.{Between}

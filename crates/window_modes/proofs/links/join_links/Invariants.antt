@@ -1,4 +1,3 @@
-use Rattle.std.proofs.Common.{◌≡◌, ℕ}
 use Rattle.year_labels.specs.declared.rule.RuleForm.{RuleForm}
 use Rattle.window_modes.specs.Links.{IsLink}
 use Rattle.window_modes.specs.Work.{Joins, Between}

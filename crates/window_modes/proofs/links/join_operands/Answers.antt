@@ -1,4 +1,3 @@
-use Rattle.std.proofs.Common.{arith}
 use Rattle.window_modes.proofs.Found.{operands}
 use Rattle.window_modes.proofs.links.join_operands.Goals as goal
 

@@ -1,4 +1,4 @@
-use Rattle.std.proofs.Common.{◌≡◌, ◌<◌, ℕ, length, arith, refl, Contains, subst, List}
+use Rattle.std.proofs.Common.{◌≡◌, arith, refl, Contains, subst, List}
 use Rattle.window_modes.specs.declared.index.YearByte.{YearByte}
 use Rattle.window_modes.specs.Work.{Joins}
 use Rattle.window_modes.proofs.Found.{twin, no_twin, numbered}

@@ -1,4 +1,4 @@
-use Rattle.std.proofs.Common.{◌≡◌, ◌<◌, ℕ, length, arith, Contains, get_or, sym, subst}
+use Rattle.std.proofs.Common.{arith, Contains, sym, subst}
 use Rattle.std.proofs.lemmas.List.Elements.{Contains-get_or}
 use Rattle.window_modes.specs.declared.index.YearByte.{YearByte}
 use Rattle.window_modes.proofs.Joined.{over-more, over-all}

@@ -1,4 +1,3 @@
-use Rattle.std.proofs.Common.{◌≡◌, ℕ}
 use Rattle.window_modes.specs.Work.{Joins}
 use Rattle.window_modes.proofs.Joined.{ByOneUpTo}
 use Rattle.window_modes.proofs.Found.{IsTwin}

@@ -1,4 +1,4 @@
-use Rattle.std.proofs.Common.{◌≡◌, arith, ap, get_or, None, false}
+use Rattle.std.proofs.Common.{ap, get_or, None, false}
 use Rattle.std.proofs.lemmas.List.{get_or_default}
 use Rattle.std.proofs.Math.ListN.{set}
 use Rattle.window_modes.specs.declared.marks.Mark.{Mark}

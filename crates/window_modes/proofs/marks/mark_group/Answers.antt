@@ -1,8 +1,8 @@
-use Rattle.std.proofs.Common.{◌≡◌, ◌<◌, ℕ, length, arith, Contains, get_or, List, sym, subst}
+use Rattle.std.proofs.Common.{ℕ, arith, List, sym, subst}
 use Rattle.std.proofs.lemmas.List.{get_or_default}
 use Rattle.y2k_base.specs.declared.place.Span.{Span}
 use Rattle.window_modes.specs.Work.{Marks, HasClassIn, AreNumbered}
-use Rattle.window_modes.proofs.Classes.{SomeUpTo, Some_one, marked-more, marked-all}
+use Rattle.window_modes.proofs.Classes.{Some_one, marked-more, marked-all}
 use Rattle.window_modes.proofs.marks.mark_group.Goals as goal
 
 pub mark_span-requires : goal.mark_span-requires

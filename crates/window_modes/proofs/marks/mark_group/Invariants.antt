@@ -1,4 +1,3 @@
-use Rattle.std.proofs.Common.{ℕ}
 use Rattle.window_modes.specs.Work.{Marks, HasClassIn}
 use Rattle.window_modes.proofs.Classes.{SomeUpTo}
 use Rattle.window_modes.proofs.marks.mark_group.Given as goal

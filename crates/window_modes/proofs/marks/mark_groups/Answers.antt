@@ -1,8 +1,8 @@
-use Rattle.std.proofs.Common.{◌≡◌, ◌<◌, ◌+◌, ◌++◌, ◌∷◌, [], ◌∙◌, ap, take, ℕ, length, arith, Contains, get_or, List, sym, subst}
+use Rattle.std.proofs.Common.{◌≡◌, ◌+◌, ◌++◌, ◌∷◌, [], ◌∙◌, ap, take, ℕ, arith, List, sym, subst}
 use Rattle.std.proofs.lemmas.List.{take_more, take_all}
 use Rattle.window_modes.specs.declared.modes.WindowGroup.{WindowGroup}
-use Rattle.window_modes.specs.Work.{Marks, AreMarked, AreNumbered}
-use Rattle.window_modes.proofs.Classes.{marked_group, marked_long}
+use Rattle.window_modes.specs.Work.{AreMarked, AreNumbered}
+use Rattle.window_modes.proofs.Classes.{marked_group}
 use Rattle.window_modes.proofs.marks.mark_groups.Goals as goal
 
 pub mark_group-requires : goal.mark_group-requires

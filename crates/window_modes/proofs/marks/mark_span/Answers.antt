@@ -2,7 +2,7 @@ use Rattle.std.proofs.Common.{◌≡◌, ◌<◌, ℕ, length, arith, Contains, 
 use Rattle.std.proofs.lemmas.List.Elements.{Contains-get_or}
 use Rattle.window_modes.specs.declared.index.YearByte.{YearByte}
 use Rattle.window_modes.specs.Work.{Marks}
-use Rattle.window_modes.proofs.Classes.{SomeUpTo, marked-more, marked-all, marked_span}
+use Rattle.window_modes.proofs.Classes.{marked-more, marked-all, marked_span}
 use Rattle.window_modes.proofs.marks.mark_span.Goals as goal
 
 pub class_of-requires : goal.class_of-requires

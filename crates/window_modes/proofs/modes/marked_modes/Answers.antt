@@ -1,4 +1,4 @@
-use Rattle.std.proofs.Common.{◌≡◌, ◌<◌, ◌++◌, ◌∙◌, ℕ, List, length, take, drop, arith, ap, get_or, sym, subst, None, false, replicate}
+use Rattle.std.proofs.Common.{◌≡◌, ◌∙◌, ℕ, List, length, arith, sym, subst, None, false, replicate}
 use Rattle.std.proofs.lemmas.List.{take_at}
 use Rattle.window_modes.specs.declared.marks.Mark.{Mark}
 use Rattle.window_modes.specs.Work.{AreMarked, AreWithin}
