@@ -112,11 +112,7 @@ fn add_table_of(
 }
 
 /// Adds that the occurrences of each item with OCCURS are alike.
-pub fn add_tables(
-    rules: &mut List<RuleInst>,
-    words: &[Word],
-    items: &[Item],
-) -> Result<(), Memory>
+pub fn add_tables(rules: &mut List<RuleInst>, words: &[Word], items: &[Item]) -> Result<(), Memory>
     ensures { OnOk result (rules.new ≡ rules.old ++ spec.table_rules items.now words.now items.now) }
 {
     let mut rest = items;

@@ -37,7 +37,7 @@ module _ (place : BytePlace) (label : Label) where
   found_at [] i low is = absurd (omega (arith, low))
   found_at (f ∷ facts) zero low is =
       let here : is_eq (fact_cmp f (fact_of place label)) ≡ true =
-        subst (λ (g : Fact). is_eq (fact_cmp g (fact_of place label)) ≡ true) (sym is) (ap is_eq (tied_itself fact_total (fact_of place label))) in
+      subst (λ (g : Fact). is_eq (fact_cmp g (fact_of place label)) ≡ true) (sym is) (ap is_eq (tied_itself fact_total (fact_of place label))) in
       ap (λ (b : Bool). b || bears facts place label) here
   found_at (f ∷ facts) (suc i) low is =
       ap (λ (b : Bool). is_eq (fact_cmp f (fact_of place label)) || b) (found_at facts i (omega (arith, low)) is) ∙ or_true (is_eq (fact_cmp f (fact_of place label)))

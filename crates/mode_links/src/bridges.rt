@@ -161,12 +161,7 @@ fn pair_in(span: Span, index: u32) -> Result<Year, Memory>
 }
 
 /// Two bytes of a span whose digits have these two powers, the higher one first.
-fn pair_of(
-    high: u8,
-    low: u8,
-    span: Span,
-    powers: &[Option<u8>],
-) -> Result<Option<Year>, Memory>
+fn pair_of(high: u8, low: u8, span: Span, powers: &[Option<u8>]) -> Result<Option<Year>, Memory>
     ensures { IfOk result (λ year. year ≡ spec.pair_from high low span 0 powers.now) }
 {
     let mut index = 0;

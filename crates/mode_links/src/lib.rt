@@ -5,6 +5,8 @@
 mod bridges;
 mod conditions;
 mod statements;
+#[cfg(test)]
+mod tests;
 mod whole;
 
 pub use bridges::{Bridge, bridge_of};

@@ -7,9 +7,7 @@ use crate::conditions::{add_condition, add_value};
 use cobol_syntax::{Branch, Control, Form, Operand, Place, Statement, Sub, Vary};
 use data_layout::Layout;
 use date_views::{Side, add_sum, side_of};
-use statement_rules::{
-    add_copy_if, add_move_if, file_side, operand_side, origin_at, record_side,
-};
+use statement_rules::{add_copy_if, add_move_if, file_side, operand_side, origin_at, record_side};
 use std::alloc::Global;
 use y2k_base::{Bytes, List, Memory, Origin, Word};
 use year_labels::{Labelling, RuleInst};
@@ -49,7 +47,15 @@ fn add_move_statement(
 {
     let sender = operand_side(alloc, layout, from)?;
     let receiver = side_of(alloc, layout, to)?;
-    add_moved(alloc, links, labelling, at, &sender, &receiver, to.subs.items())?;
+    add_moved(
+        alloc,
+        links,
+        labelling,
+        at,
+        &sender,
+        &receiver,
+        to.subs.items(),
+    )?;
     Ok(())
 }
 

@@ -1,8 +1,7 @@
-ghost use Rattle.std.specs.Prelude.{◌≡◌, ◌⊎◌, ◌↔◌, ◌∷◌, [], ◌++◌, ◌/◌, ◌+◌, ◌<◌, ◌≤◌, ℕ, IsTrue, IfOk, OnOk, IfSome, IfNone, Contains, length};
+ghost use Rattle.std.specs.Prelude.{◌≡◌, ◌↔◌, ◌/◌, ◌+◌, ◌<◌, ℕ, IsTrue, IfOk, OnOk, IfSome, IfNone, length};
 ghost use Rattle.year_labels.specs.Forms.{IsFitView};
 ghost use Rattle.year_labels.specs.Roles.{HoldsPower};
 ghost use Rattle.year_labels.specs.declared.rule.View.TheVariants as views;
-ghost use Rattle.window_modes.specs.declared.digits.YearDigit.{YearDigit as AnyDigit};
 ghost use Rattle.window_modes.specs.Work.{IsIndexOf, AreDigitsOf, AddsDigits, IsPairDigit, IsPairPower, IsPackedDigit};
 ghost use Rattle.window_modes.specs.Modes.{OfYear};
 ghost use Rattle.window_modes.specs.Links.{start};

@@ -2,7 +2,7 @@ ghost use Rattle.std.specs.Prelude.{◌≡◌, ◌⊎◌, ◌↔◌, ◌<◌, �
 ghost use Rattle.label_spread.specs.Steps.{IsInSpan};
 ghost use Rattle.window_modes.specs.declared.index.YearByte.{YearByte as AnyByte};
 ghost use Rattle.window_modes.specs.Modes.{AreInAreas};
-ghost use Rattle.window_modes.specs.Work.{IsIndexOf, IsIndexUpTo, HasBytesUpTo, bytes_between, year_width};
+ghost use Rattle.window_modes.specs.Work.{IsIndexOf, HasBytesUpTo, bytes_between, year_width};
 
 use std::alloc::{AllocError, Global};
 use std::collections::BTreeSet;

@@ -7,5 +7,7 @@ mod index;
 mod links;
 mod marks;
 mod modes;
+#[cfg(test)]
+mod tests;
 
 pub use modes::{WindowGroup, YearMode, window_modes};

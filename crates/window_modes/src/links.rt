@@ -1,7 +1,6 @@
-ghost use Rattle.std.specs.Prelude.{◌≡◌, ◌⊎◌, ◌/◌, ◌+◌, ◌<◌, ◌≤◌, ℕ, OnOk, All, Contains, length};
+ghost use Rattle.std.specs.Prelude.{◌≡◌, ◌/◌, ◌+◌, ◌<◌, ℕ, OnOk, All, Contains, length};
 ghost use Rattle.year_labels.specs.Facts.{place_in};
 ghost use Rattle.year_labels.specs.Forms.{IsFit, IsFitView, IsPlaced};
-ghost use Rattle.label_spread.specs.Steps.{IsInSpan};
 ghost use Rattle.window_modes.specs.declared.index.YearByte.{YearByte as AnyByte};
 ghost use Rattle.window_modes.specs.declared.digits.YearDigit.{YearDigit as AnyDigit};
 ghost use Rattle.window_modes.specs.Links.{AreAligned, AreTwins, AreOperands, IsLink, IsLinked};

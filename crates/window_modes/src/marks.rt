@@ -1,6 +1,4 @@
-ghost use Rattle.std.specs.Prelude.{◌≡◌, ◌<◌, OnOk, Contains, List as Items, EachIndex, length, slice_index};
-ghost use Rattle.label_spread.specs.Steps.{IsInSpan};
-ghost use Rattle.window_modes.specs.declared.index.YearByte.{YearByte as AnyByte};
+ghost use Rattle.std.specs.Prelude.{◌≡◌, ◌<◌, OnOk, length, slice_index};
 ghost use Rattle.window_modes.specs.Work.{AreMarked, Marks, HasClass, HasClassIn, AreNumbered, hit};
 
 use crate::index::{YearByte, bytes_in};

@@ -1,4 +1,4 @@
-ghost use Rattle.std.specs.Prelude.{◌≡◌, ◌<◌, ◌∷◌, [], IfOk, All, Contains, List as Items, length, slice_index};
+ghost use Rattle.std.specs.Prelude.{◌≡◌, ◌<◌, IfOk, All, length};
 ghost use Rattle.year_labels.specs.Forms.{IsFit};
 ghost use Rattle.window_modes.specs.Modes.{AreInAreas, AreModesOf};
 ghost use Rattle.window_modes.specs.Work.{IsIndexOf, AreClassesOf, AreMarkedModes, AreWithin, AreOfMarks};
