@@ -19,7 +19,7 @@ use Rattle.year_labels.specs.Facts.{fact_of, place_in}
 use Rattle.year_labels.specs.Order.{fact_cmp}
 use Rattle.year_pairs.specs.declared.year.Year.{Year}
 use Rattle.year_pairs.specs.declared.year.YearKind.TheVariants as kinds
-use Rattle.year_pairs.specs.Years.{width, label_at, place_after}
+use Rattle.year_pairs.specs.Years.{width, label_at, place_after, IsYear}
 use Rattle.date_views.specs.declared.side.Field.{Field}
 use Rattle.date_views.specs.declared.side.Side.{Side}
 use Rattle.date_views.specs.declared.side.Side.TheVariants as sides
@@ -123,3 +123,7 @@ abbrev pub bridge : List Fact → Option Side → Option Side → List Sub → O
 bridge facts None to subs = None
 bridge facts (Some (sides.Known a)) to subs = bridge_from facts a to subs
 bridge facts (Some (sides.Moving most)) to subs = None
+
+-- both years stand there
+abbrev pub AreStanding : List Fact → Bridge → Type 0
+AreStanding facts b = IsYear facts b.sent × IsYear facts b.received

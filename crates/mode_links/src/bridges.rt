@@ -1,4 +1,4 @@
-ghost use Rattle.std.specs.Prelude.{◌≡◌, ◌+◌, ◌-◌, ◌&&◌, IfOk};
+ghost use Rattle.std.specs.Prelude.{◌≡◌, ◌+◌, ◌-◌, ◌&&◌, IfOk, IfSome};
 ghost use Rattle.data_layout.specs.Index.{IsReady};
 ghost use Rattle.year_labels.specs.declared.label.Label.TheVariants as labels;
 ghost use Rattle.year_labels.specs.Facts as facts;
@@ -365,7 +365,8 @@ pub fn bridge_of(
     to: &Place,
 ) -> Result<Option<Bridge>, Memory>
     requires { IsReady layout.now }
-    ensures { IfOk result (λ bridge. bridge ≡ spec.bridge labelling.now (names.operand_side layout.now from.now) (sides.side_of layout.now to.now) to.now.subs) }
+    ensures bridge { IfOk result (λ bridge. bridge ≡ spec.bridge labelling.now (names.operand_side layout.now from.now) (sides.side_of layout.now to.now) to.now.subs) }
+    ensures years { IfOk result (λ bridge. IfSome bridge (spec.AreStanding labelling.now)) }
 {
     let sender = operand_side(alloc, layout, from)?;
     let receiver = side_of(alloc, layout, to)?;
