@@ -1,5 +1,5 @@
 -- The years of a bridged move stand there.
-use Rattle.std.proofs.Common.{◌≡◌, ◌⊎◌, inl, inr, arith, ℕ, zero, suc, ◌<◌, ◌+◌, ◌-◌, Bool, true, false, ◌&&◌, nat_le, if◌then◌else◌, List, refl, subst, Contains, Option, Some, None}
+use Rattle.std.proofs.Common.{◌≡◌, inl, inr, arith, ℕ, zero, suc, ◌<◌, ◌-◌, Bool, true, false, ◌&&◌, nat_le, if◌then◌else◌, List, refl, subst, Contains, Option, Some, None}
 use Rattle.std.specs.Prelude.{IfSome}
 use Rattle.std.proofs.lemmas.Bool.{cases_lt}
 use Rattle.cobol_syntax.specs.declared.place.Sub.{Sub}

@@ -355,6 +355,22 @@ pub(crate) fn bridge_between(
     }
 }
 
+fn find_bridge(
+    alloc: Global,
+    layout: &Layout,
+    labelling: &Labelling,
+    from: &Operand,
+    to: &Place,
+) -> Result<Option<Bridge>, Memory>
+    requires { IsReady layout.now }
+    ensures { IfOk result (λ bridge. bridge ≡ spec.bridge labelling.now (names.operand_side layout.now from.now) (sides.side_of layout.now to.now) to.now.subs) }
+{
+    let sender = operand_side(alloc, layout, from)?;
+    let receiver = side_of(alloc, layout, to)?;
+    let bridge = bridge_between(labelling, &sender, &receiver, to.subs.items())?;
+    Ok(bridge)
+}
+
 /// The years of a MOVE statement that is bridged, or `None` where it isn't. Only such a move may have a sender and a receiver
 /// whose years have unlike modes. A byte that 32 bits can't address is want of memory.
 pub fn bridge_of(
@@ -368,8 +384,6 @@ pub fn bridge_of(
     ensures bridge { IfOk result (λ bridge. bridge ≡ spec.bridge labelling.now (names.operand_side layout.now from.now) (sides.side_of layout.now to.now) to.now.subs) }
     ensures years { IfOk result (λ bridge. IfSome bridge (spec.AreStanding labelling.now)) }
 {
-    let sender = operand_side(alloc, layout, from)?;
-    let receiver = side_of(alloc, layout, to)?;
-    let bridge = bridge_between(labelling, &sender, &receiver, to.subs.items())?;
+    let bridge = find_bridge(alloc, layout, labelling, from, to)?;
     Ok(bridge)
 }

@@ -9,5 +9,5 @@ use Rattle.mode_links.proofs.bridges.bridge_of.Goals as goal
 
 pub returns-clause-years : goal.returns-clause-years
 returns-clause-years c =
-    subst (λ (b : Option Bridge). IfSome b (AreStanding c.args.labelling.now)) (sym c.in_ok-bridge_between.ensures)
-    (bridge_stands c.args.labelling.now c.in_ok-operand_side.result c.in_ok-side_of.result c.args.to.now.subs)
+    subst (λ (b : Option Bridge). IfSome b (AreStanding c.args.labelling.now)) (sym c.in_ok-bridge.ensures)
+    (bridge_stands c.args.labelling.now (operand_side c.args.layout.now c.args.from.now) (side_of c.args.layout.now c.args.to.now) c.args.to.now.subs)
