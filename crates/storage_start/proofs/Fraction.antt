@@ -1,5 +1,5 @@
 -- The digits of a picture after its point, run by run.
-use Rattle.std.proofs.Common.{◌≡◌, ℕ, zero, suc, ◌+◌, ◌-◌, ◌<◌, ◌==◌, Bool, true, false, true≢false, cond, ◌&&◌, List, [], ◌∷◌, ◌++◌, length, take, drop, get_or, replicate, refl, sym, ap, ap₂, ◌∙◌, subst, arith}
+use Rattle.std.proofs.Common.{◌≡◌, ℕ, zero, suc, ◌+◌, ◌-◌, ◌<◌, ◌==◌, Bool, true, false, true≢false, cond, ◌&&◌, List, ◌∷◌, ◌++◌, length, take, drop, get_or, replicate, refl, sym, ap, ◌∙◌, arith}
 use Rattle.std.specs.Prelude.{nat_lt}
 use Rattle.std.proofs.Math.Seq.{take-length}
 use Rattle.std.proofs.lemmas.Bool.{lt-ltb}
@@ -71,3 +71,12 @@ begun p i inside some = sym (ap digits_after (symbols_at p i blank inside) ∙ r
 
 pub to-end : (p : List Run) (k : ℕ) → take (length p - k) (drop k p) ≡ drop k p
 to-end p k = ap (λ (n : ℕ). take n (drop k p)) (sym (length-drop k p)) ∙ take-length (drop k p)
+
+pub shown-at : (p : List Run) (i : ℕ) → i < length p
+    → digits_shown (symbols (drop i p)) ≡ cond (shows_digit (symbol_of (get_or p i blank).symbol)) (get_or p i blank).count 0 + digits_shown (symbols (drop (i + 1) p))
+shown-at p i inside = ap digits_shown (symbols_at p i blank inside) ∙ digits_shown-run (get_or p i blank).count (symbol_of (get_or p i blank).symbol) (symbols (drop (i + 1) p))
+
+-- what the rest shows after a point that begins there is the whole fraction
+pub fraction : (p : List Run) (i : ℕ) → i < length p → begins_fraction (get_or p i blank) ≡ true → digits_after (symbols (drop i p)) ≡ digits_after (symbols p)
+    → digits_shown (symbols (take (length p - (i + 1)) (drop (i + 1) p))) ≡ digits_after (symbols p)
+fraction p i inside some so = ap (λ (runs : List Run). digits_shown (symbols runs)) (to-end p (i + 1)) ∙ begun p i inside some ∙ so

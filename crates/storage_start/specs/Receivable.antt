@@ -1,5 +1,5 @@
 -- Items that can receive a number: no more than 18 digits stand after the point.
-use Rattle.std.specs.Prelude.{ℕ, ◌≤◌, Option}
+use Rattle.std.specs.Prelude.{◌≤◌, Option}
 use Rattle.y2k_base.specs.declared.picture.Picture.{Picture}
 use Rattle.data_layout.specs.declared.item.Item.{Item}
 use Rattle.layout_reading.specs.Kinds.{symbols}

@@ -8,7 +8,10 @@ mod receiving;
 mod scale;
 mod sending;
 mod starting;
+#[cfg(test)]
+mod tests;
 mod values;
 
 pub use literals::are_literals;
+pub use receiving::are_receivable;
 pub use starting::start;

@@ -1,18 +1,46 @@
-ghost use Rattle.std.specs.Prelude.{◌≡◌, IfOk, length};
-ghost use Rattle.layout_reading.specs.Kinds.{read_kind};
+ghost use Rattle.std.specs.Prelude.{◌≡◌, IfOk, IsTrue, length};
+ghost use Rattle.std.specs.List.{AllByRecursion};
+ghost use Rattle.layout_reading.specs.Kinds.{read_kind, symbols};
+ghost use Rattle.number_bytes.specs.Stored as stored;
 ghost use Rattle.operand_kinds.specs.Kinds.{kind_of_item};
 ghost use Rattle.program_meaning.specs.Moves as meant;
 ghost use Rattle.storage_places.specs.Fits.{KindFits};
 ghost use Rattle.storage_start.specs.Receivable.{IsReceivable};
 ghost use Rattle.value_moves.specs.Given.{receiver_of, IsFor, IsSent};
-ghost use Rattle.number_bytes.specs.Stored as stored;
-ghost use Rattle.layout_reading.specs.Kinds.{symbols};
 
 use crate::scale::scale_of;
-use data_layout::{Class, Item};
+use data_layout::{Class, Item, Layout};
 use std::alloc::Global;
 use value_moves::{Sent, receive_edited, receive_number, receive_text};
 use y2k_base::{Memory, Picture, Run};
+
+/// Whether no item of a layout has more than 18 digits after its point. It is so in each layout that breaks no rule of the
+/// data division.
+pub fn are_receivable(layout: &Layout) -> bool
+    ensures receive { IsTrue result → AllByRecursion IsReceivable layout.now.items }
+    ensures all { AllByRecursion IsReceivable layout.now.items → IsTrue result }
+{
+    let mut rest = layout.items.items();
+    while let [item, more @ ..] = rest {
+        if !is_receivable(item) {
+            return false;
+        }
+        rest = more;
+    }
+    true
+}
+
+fn is_receivable(item: &Item) -> bool
+    ensures receives { IsTrue result → IsReceivable item.now }
+    ensures all { IsReceivable item.now → IsTrue result }
+{
+    match item.class {
+        Class::Group => true,
+        Class::Text => true,
+        Class::Edited => scale_of(runs_of(&item.picture)).is_some(),
+        Class::Number => item.form.scale <= 18,
+    }
+}
 
 /// What an item makes of what is sent to it.
 pub(crate) fn received(alloc: Global, item: &Item, sent: &Sent) -> Result<Vec<u8>, Memory>
@@ -40,7 +68,10 @@ fn receive(item: &Item, sent: &Sent, into: &mut [u8])
         Class::Text => receive_text(sent, into),
         Class::Edited => {
             let picture = runs_of(&item.picture);
-            receive_edited(sent, scale_of(picture), picture, into);
+            match scale_of(picture) {
+                Some(scale) => receive_edited(sent, scale, picture, into),
+                None => unreachable!(),
+            }
         }
         Class::Number => receive_number(sent, item.usage, item.form, into),
     }

@@ -103,12 +103,7 @@ fn put_operand(
     }
 }
 
-fn put_sent(
-    alloc: Global,
-    item: &Item,
-    sent: &Sent,
-    storage: &mut Storage,
-) -> Result<(), Memory>
+fn put_sent(alloc: Global, item: &Item, sent: &Sent, storage: &mut Storage) -> Result<(), Memory>
     requires fits { ItemFits (first storage.old) (lengths (held storage.old)) item.now }
     requires receives { IsReceivable item.now }
     requires suits { IsFor (receiver_of (read_kind item.now)) sent.now }

@@ -1,4 +1,4 @@
-use Rattle.std.proofs.Common.{ℕ, ◌-◌, ◌+◌, ◌*◌, map, sym, ap, ◌∙◌}
+use Rattle.std.proofs.Common.{ℕ, ◌-◌, ◌+◌, ◌*◌, map, ap, ◌∙◌}
 use Rattle.y2k_base.specs.declared.place.Span.{Span}
 use Rattle.layout_reading.specs.Reading.{read_step}
 use Rattle.program_meaning.specs.Start.{occurrences}

@@ -1,4 +1,4 @@
-use Rattle.std.proofs.Common.{map, sym, ap, ◌∙◌}
+use Rattle.std.proofs.Common.{map, sym}
 use Rattle.layout_reading.specs.Reading.{read_item, read_step}
 use Rattle.program_meaning.specs.Answer.{Data}
 use Rattle.program_meaning.specs.Moves.{sent}

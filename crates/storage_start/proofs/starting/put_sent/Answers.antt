@@ -1,7 +1,7 @@
 use Rattle.std.proofs.Common.{ℕ, List, ◌-◌, map, sym, ap, ◌∙◌}
 use Rattle.data_layout.specs.declared.item.Step.{Step}
 use Rattle.layout_reading.specs.Kinds.{read_kind}
-use Rattle.layout_reading.specs.Reading.{read_item, read_step, first_area}
+use Rattle.layout_reading.specs.Reading.{read_item, read_step}
 use Rattle.program_meaning.specs.Moves.{received}
 use Rattle.program_meaning.specs.Start.{occurrences}
 use Rattle.storage_places.specs.Held.{held, first}

@@ -1,4 +1,4 @@
-use Rattle.std.proofs.Common.{map, sym, ap, ◌∙◌}
+use Rattle.std.proofs.Common.{map, sym, ◌∙◌}
 use Rattle.storage_places.specs.Held.{held}
 use Rattle.storage_start.specs.Literals.{value_of}
 use Rattle.storage_start.proofs.Received.{one-value}
