@@ -23,7 +23,7 @@ pub struct Channel<'a> {
     pub status: Option<&'a Place>,
 }
 
-/// The file of a SELECT. Numbers past 32 bits are want of memory.
+/// The file of a SELECT. A number past 32 bits is want of memory.
 pub(crate) fn channel_of<'a>(
     select: &'a Select,
     file: u32,

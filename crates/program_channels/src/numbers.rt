@@ -11,7 +11,8 @@ use name_tables::NameTable;
 use std::alloc::Global;
 use y2k_base::Memory;
 
-/// The numbers of names. A name that isn't there has the number after the last one.
+/// The numbers of names. A name that isn't there has the number after the last one. A number past 32 bits is want of
+/// memory.
 #[derive(Drop)]
 pub(crate) struct Numbers<'a> {
     table: NameTable<'a, u32>,
