@@ -1,0 +1,4 @@
+pub mod Literals
+pub mod Points
+pub mod Receivable
+pub mod Writes
