@@ -1,0 +1,8 @@
+//! The places of a running program. Each place of its text is resolved when it is first met, and kept.
+#![tactic(auto)]
+
+mod places;
+mod view;
+
+pub use places::Places;
+pub use view::{NamedView, View};
