@@ -24,7 +24,7 @@ use Rattle.storage_places.specs.declared.access.Cut.{Cut}
 use Rattle.storage_places.specs.declared.access.Access.{Access}
 use Rattle.storage_places.specs.declared.access.NamedAccess.{NamedAccess}
 use Rattle.storage_places.specs.Resolved as resolved
-use Rattle.storage_places.specs.Fits.{IsNumber, KindFits, TakesText, NumberFits, BoundFits, BoundIfFits, CutFits, Fits, ItemFits, LayoutFits, area_lengths}
+use Rattle.storage_places.specs.Fits.{IsNumber, KindFits, TakesText, BoundFits, BoundIfFits, CutFits, Fits, ItemFits, LayoutFits, area_lengths}
 
 at-number : (P : Item → Type 0) (items : List Item) (k : ℕ) (item : Item) → AllByRecursion P items → slice_get items k ≡ Some item → P item
 at-number P [] k item all is = absurd (none-some item is)

@@ -1,3 +1,4 @@
 pub mod FitLaws
 pub mod HeldLaws
 pub mod MeansLaws
+pub mod PictureLaws

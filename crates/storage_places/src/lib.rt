@@ -5,6 +5,7 @@
 mod access;
 mod fault;
 mod fitting;
+mod pictures;
 mod reaching;
 mod resolving;
 mod storage;
