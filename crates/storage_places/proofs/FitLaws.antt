@@ -43,7 +43,7 @@ module _ (l : Layout) (fit : LayoutFits l) where
   by-meaning found.Unknown item is = absurd (none-some item is)
   by-meaning found.Twice item is = absurd (none-some item is)
 
-  item-fits : (names : List (List ℕ)) (item : Item) → resolved.item_named l names ≡ Some item → ItemFits (first_area l.areas) (area_lengths l) item
+  pub item-fits : (names : List (List ℕ)) (item : Item) → resolved.item_named l names ≡ Some item → ItemFits (first_area l.areas) (area_lengths l) item
   item-fits names item is = by-meaning (meaning l names) item is
 
   by-class : (item : Item) (c : Class) (b : Bound) → item.class ≡ c → ItemFits (first_area l.areas) (area_lengths l) item → resolved.bound_by c item ≡ Some b → BoundFits (first_area l.areas) (area_lengths l) b

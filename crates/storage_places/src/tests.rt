@@ -193,6 +193,22 @@ fn reached_with(
     Ok(reached(alloc, &layout, &storage, &place))
 }
 
+/// How many digits the item of a name has, of which a reference takes a part where a start isn't 0.
+fn digits_of(alloc: Global, name: u8, start: u32) -> Result<Option<u8>, Memory> {
+    let layout = match layout_of_table(alloc) {
+        Ok(layout) => layout,
+        Err(_) => return Err(Memory),
+    };
+    if !layout_fits(&layout) {
+        return Err(Memory);
+    }
+    let place = place_of(alloc, name, 0, start, 0)?;
+    match item_form(&layout, &place) {
+        Some(form) => Ok(Some(form.digits)),
+        None => Ok(None),
+    }
+}
+
 fn part_of(area: u32, offset: u32, length: u32) -> Span
     ensures { result.length ≡ length }
 {
@@ -248,5 +264,20 @@ fn laid_out_items_fit(rt: HostRuntime) -> Result<(), Fail> {
     assert!(rt; fits_with(alloc, b"Z(3)9", None)?);
     assert!(rt; fits_with(alloc, b"Z,ZZ9.99-", Some(2))?);
     assert!(rt; fits_with(alloc, b"99/99/9999", None)?);
+    Ok(())
+}
+
+#[test]
+fn the_form_of_an_item_is_given_with_a_reference(rt: HostRuntime) -> Result<(), Fail> {
+    let alloc = rt.alloc();
+    let rows = [
+        (b'A', 0, Some(2)),
+        (b'N', 1, Some(1)),
+        (b'X', 0, Some(0)),
+        (b'Q', 0, None),
+    ];
+    for (name, start, digits) in rows {
+        assert!(rt; digits_of(alloc, name, start)? == digits);
+    }
     Ok(())
 }
