@@ -1,22 +1,15 @@
 -- What places of a program are taken as, and where they are.
-use Rattle.std.specs.Prelude.{◌≡◌, ℕ, ◌≤◌, ◌<◌, List, [], length, map, Option, Some, None, slice_get}
+use Rattle.std.specs.Prelude.{◌≡◌, ℕ, ◌≤◌, ◌<◌, length, Option, Some, None, slice_get}
 use Rattle.y2k_base.specs.declared.picture.Picture.{Picture}
-use Rattle.cobol_syntax.specs.declared.program.Range as tree_range
-use Rattle.data_layout.specs.declared.item.CondItem.{CondItem}
-use Rattle.data_layout.specs.declared.item.Layout.{Layout}
-use Rattle.program_meaning.specs.Answer.{Answer, Gives, or_fault, and_then}
-use Rattle.program_meaning.specs.Answer as answer
-use Rattle.program_meaning.specs.Layout as meant
+use Rattle.program_meaning.specs.Answer.{Gives}
 use Rattle.program_meaning.specs.Storage as meaning
-use Rattle.program_meaning.specs.Storage.{view_of}
-use Rattle.program_meaning.specs.Tree as tree
-use Rattle.tree_reading.specs.Reading.{read_values}
 use Rattle.layout_reading.specs.Reading.{read_span, first_area}
-use Rattle.storage_places.specs.Reached.{kind_with}
-use Rattle.place_table.specs.declared.places.Known.{Known}
+use Rattle.storage_places.specs.Reached.{kind_with, span_at}
+use Rattle.place_table.specs.declared.known.Known.{Known}
 use Rattle.place_table.specs.declared.places.Places.{Places}
 use Rattle.place_table.specs.declared.view.View.{View}
-use Rattle.place_table.specs.Tables.{layout_of}
+use Rattle.place_table.specs.Tables.{layout_of, known_at}
+pub use Rattle.place_table.specs.Names.{ranges_of, ranges_at, named_view}
 
 -- how many places are known
 abbrev pub count : Places → ℕ
@@ -41,15 +34,10 @@ pub record HasGrown (old new : Places) : Type 0 where
   pub more : count old ≤ count new
   pub kept : (number : ℕ) → number < count old → picture_at new number ≡ picture_at old number
 
--- the values of a condition-name that is there
-abbrev pub ranges_of : Option CondItem → List tree_range.Range
-ranges_of None = []
-ranges_of (Some c) = c.ranges
-
-abbrev pub ranges_at : Layout → ℕ → List tree_range.Range
-ranges_at layout number = ranges_of (slice_get layout.conds number)
-
--- where the item of a condition-name is, and the values of the name
-abbrev pub named_view : meant.Layout → meaning.Storage → tree.Place → Answer (meaning.View × List meant.Values)
-named_view layout store place =
-    and_then (or_fault answer.Range (meant.cond_of layout place.names)) (λ c. and_then (view_of layout store c.item place) (λ v. Gives (v, c.values)))
+-- where the place with this number is
+pub record IsViewOf (places : Places) (store : meaning.Storage) (number : ℕ) (v : View) : Type 0 where
+  pub known : Known
+  pub here : known_at places number ≡ Some known
+  pub kind : v.kind ≡ known.access.kind
+  pub same : v.number ≡ number
+  pub span : span_at (first_area (layout_of places).areas) store known.access ≡ Gives v.span

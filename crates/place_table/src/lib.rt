@@ -1,7 +1,10 @@
 //! The places of a running program. Each place of its text is resolved when it is first met, and kept.
 #![tactic(auto)]
 
+mod known;
+mod numbers;
 mod places;
+mod same;
 mod view;
 
 pub use places::Places;
