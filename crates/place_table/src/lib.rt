@@ -2,6 +2,7 @@
 #![tactic(auto)]
 
 mod known;
+mod naming;
 mod numbers;
 mod places;
 mod same;

@@ -2,6 +2,7 @@ ghost use Rattle.place_table.specs.Known.{IsSound, AreKnown};
 ghost use Rattle.place_table.specs.Props as known_props;
 
 use crate::known::{Known, Meaning};
+use crate::naming::resolve_name;
 use crate::numbers::Numbers;
 use crate::same::same_place;
 use crate::view::{NamedView, View};
@@ -10,7 +11,7 @@ use data_layout::Layout;
 use decimal_bytes::NumForm;
 use operand_kinds::Kind;
 use std::alloc::Global;
-use storage_places::{Access, RunFault, Storage, item_form, resolve, resolve_named};
+use storage_places::{Access, RunFault, Storage, item_form, resolve};
 use y2k_base::{Memory, Run, Twin};
 
 /// The places of a running program. Each is resolved when it is first met, and found again by its position in the
@@ -37,7 +38,7 @@ impl Drop for Places<'_> {
 }
 
 impl<'a> Places<'a> {
-    ghost use Rattle.std.specs.Prelude.{◌≡◌, ◌≤◌, ◌<◌, IfOk, IfErr, IfSome, map, option_map, Some};
+    ghost use Rattle.std.specs.Prelude.{◌≡◌, ◌≤◌, ◌<◌, IfOk, IfErr, IfSome, IsTrue, map, option_map, Some};
     ghost use Rattle.data_layout.specs.Index.{IsReady};
     ghost use Rattle.layout_reading.specs.Kinds as kinds;
     ghost use Rattle.layout_reading.specs.Kinds.{IsReadAs};
@@ -132,10 +133,10 @@ impl<'a> Places<'a> {
         ensures grown { HasGrown self.old self.new }
     {
         match self.name_number(place) {
-            Ok((name, number)) => {
-                let view = self.view_of(storage, number)?;
-                Ok(NamedView { name, view })
-            }
+            Ok((name, number)) => match self.view_of(storage, number) {
+                Ok(view) => Ok(NamedView { name, view }),
+                Err(fault) => Err(fault),
+            },
             Err(Memory) => Err(RunFault::Memory),
         }
     }
@@ -170,6 +171,7 @@ impl<'a> Places<'a> {
             → Meets (span_at (first_area (layout_of self.now).areas) (held storage.now) known.access) fault) }
         ensures within { IfOk result (λ v. IsWithin (first_area (layout_of self.now).areas) (area_lengths (layout_of self.now)) v.span) }
         ensures fits { IfOk result (λ v. KindFits v.kind (picture_at self.now v.number) v.span.length) }
+        ensures here { IfOk result (λ v. v.number < count self.now) }
     {
         let access = self.access(number);
         let span = storage.span_at(access)?;
@@ -265,10 +267,9 @@ impl<'a> Places<'a> {
         ensures item { IfOk result (λ n. IsNameAt self.new place.now n.0 n.1) }
         ensures grown { HasGrown self.old self.new }
     {
-        match resolve_named(self.alloc, self.layout, place)? {
-            Some(named) => {
-                let name = named.name;
-                let number = self.add(place, Meaning::Name { number: name }, named.into_access())?;
+        match resolve_name(self.alloc, self.layout, place)? {
+            Some((name, access)) => {
+                let number = self.add(place, Meaning::Name { number: name }, access)?;
                 Ok((name, number))
             }
             None => Err(Memory),
@@ -280,18 +281,31 @@ impl<'a> Places<'a> {
         ensures { IfSome result (IsFound self.now place.now) }
     {
         match self.numbers.get(place.at) {
-            Some(number) => match self.known.get(number as usize) {
-                Some(known) => {
-                    if same_place(&known.place, place) {
-                        Some(number)
-                    } else {
-                        None
-                    }
+            Some(number) => {
+                if self.is_at(number, place) {
+                    Some(number)
+                } else {
+                    None
                 }
-                None => None,
-            },
+            }
             None => None,
         }
+    }
+
+    /// Whether the place with this number reads as this one.
+    fn is_at(&self, number: u32, place: &Place) -> bool
+        ensures { IsTrue result → IsFound self.now place.now number }
+    {
+        match self.known_at(number) {
+            Some(known) => same_place(&known.place, place),
+            None => false,
+        }
+    }
+
+    fn known_at(&self, number: u32) -> Option<&Known>
+        ensures { option_map (λ known. known.now) result ≡ known_at self.now number }
+    {
+        self.known.get(number as usize)
     }
 
     /// Adds a place that is resolved, and gives its number.

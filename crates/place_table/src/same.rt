@@ -20,9 +20,15 @@ fn same_names(left: &[Bytes], right: &[Bytes]) -> bool
         [] => right.is_empty(),
         [name, names @ ..] => match right {
             [] => false,
-            [other, others @ ..] => name.items() == other.items() && same_names(names, others),
+            [other, others @ ..] => same_name(name, other) && same_names(names, others),
         },
     }
+}
+
+fn same_name(left: &Bytes, right: &Bytes) -> bool
+    ensures { IsTrue result → left.now ≡ right.now }
+{
+    left.items() == right.items()
 }
 
 fn same_subs(left: &[Sub], right: &[Sub]) -> bool
