@@ -22,9 +22,7 @@ use Rattle.storage_places.specs.declared.access.Access.{Access}
 use Rattle.storage_places.specs.declared.access.NamedAccess.{NamedAccess}
 use Rattle.storage_places.specs.declared.fault.RunFault.{RunFault}
 use Rattle.storage_places.specs.declared.fault.RunFault.TheVariants as fault
-use Rattle.storage_places.specs.Fits.{Fits}
-use Rattle.storage_places.specs.Forms.{IsFormOf}
-use Rattle.storage_places.specs.Means.{IsAccess, IsNamed, NamesFor, view_with}
+use Rattle.storage_places.specs.Means.{IsAccess, NamesFor, view_with}
 use Rattle.storage_places.specs.Meets.{Meets, MayMeet}
 use Rattle.storage_places.specs.Reached.{span_at}
 use Rattle.place_table.specs.declared.known.Known.{Known}
@@ -32,7 +30,7 @@ use Rattle.place_table.specs.declared.known.Meaning.{Meaning}
 use Rattle.place_table.specs.declared.known.Meaning.TheVariants as meanings
 use Rattle.place_table.specs.declared.places.Places.{Places}
 use Rattle.place_table.specs.declared.view.View.{View}
-use Rattle.place_table.specs.Known.{IsItem, IsName, IsMeant, IsKnown, IsKnownAs, AreKnown}
+use Rattle.place_table.specs.Known.{IsItem, IsName, IsMeant, IsKnown, AreKnown}
 use Rattle.place_table.specs.Names.{named_view, ranges_of, ranges_at}
 use Rattle.place_table.specs.Tables.{layout_of, known_at, Gave, Failed, IsFound, IsItemAt, IsNameAt}
 

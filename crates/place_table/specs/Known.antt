@@ -1,5 +1,5 @@
 -- What is known of places.
-use Rattle.std.specs.Prelude.{◌≡◌, ℕ, map, List, Option, Some, None}
+use Rattle.std.specs.Prelude.{◌≡◌, ℕ, map, List}
 use Rattle.std.specs.List.{AllByRecursion}
 use Rattle.cobol_syntax.specs.declared.place.Place.{Place}
 use Rattle.cobol_syntax.specs.declared.program.Program.{Program}
@@ -36,7 +36,7 @@ pub record IsItem (layout : Layout) (place : Place) (form : NumForm) (access : A
 abbrev pub IsName : Layout → Place → ℕ → Access → Type 0
 IsName layout place number access =
     (program : Program) (store : Storage) → named_view (read_layout program layout) store (read_place place)
-      ≡ and_then (span_at (first_area layout.areas) store access) (λ span. Gives (view_with (first_area layout.areas) access span, map read_values (ranges_at layout number)))
+    ≡ and_then (span_at (first_area layout.areas) store access) (λ span. Gives (view_with (first_area layout.areas) access span, map read_values (ranges_at layout number)))
 
 abbrev pub IsMeant : Layout → Place → Meaning → Access → Type 0
 IsMeant layout place (meanings.Item form) access = IsItem layout place form access

@@ -1,14 +1,13 @@
 -- What is known of places has one proof at most.
 use Rattle.std.specs.Prelude.{ℕ, ◌+◌, List, [], ◌∷◌, Option, Some, None}
 use Rattle.std.proofs.Props.{props}
-use Rattle.std.specs.List.{AllByRecursion, AllByRecursion-prop}
+use Rattle.std.specs.List.{AllByRecursion-prop}
 use mathlib.Core.HLevel.{Unit-prop}
 use mathlib.Core.Sum.{⊎_set}
 use Rattle.y2k_base.specs.declared.picture.Picture.{Picture}
 use Rattle.cobol_syntax.specs.declared.place.Place.{Place}
 use Rattle.data_layout.specs.declared.item.Area.{Area}
 use Rattle.data_layout.specs.declared.item.Layout.{Layout}
-use Rattle.data_layout.specs.Index.{IsReady}
 use Rattle.decimal_bytes.specs.declared.form.NumForm.{NumForm}
 use Rattle.operand_kinds.specs.declared.kind.Kind.{Kind}
 use Rattle.operand_kinds.specs.declared.kind.Kind.TheVariants as kinds
@@ -23,11 +22,11 @@ use Rattle.storage_places.specs.declared.access.Access.{Access}
 use Rattle.storage_places.specs.declared.access.Bound.{Bound}
 use Rattle.storage_places.specs.declared.access.Bound.TheVariants as bound
 use Rattle.storage_places.specs.declared.access.Cut.{Cut}
-use Rattle.storage_places.specs.Fits.{KindFits, TakesText, BoundFits, BoundIfFits, CutFits, Fits, ItemFits, LayoutFits}
+use Rattle.storage_places.specs.Fits.{KindFits, TakesText, BoundFits, BoundIfFits, CutFits, LayoutFits}
 use Rattle.place_table.specs.declared.known.Known.{Known}
 use Rattle.place_table.specs.declared.known.Meaning.{Meaning}
 use Rattle.place_table.specs.declared.known.Meaning.TheVariants as meanings
-use Rattle.place_table.specs.Known.{IsSound, IsItem, IsName, IsMeant, IsKnown, AreKnown}
+use Rattle.place_table.specs.Known.{IsSound, IsMeant, IsKnown, AreKnown}
 
 symbol-set : IsSet meant.Symbol
 symbol-set = Prim.hlevel (props, ⊎_set)
