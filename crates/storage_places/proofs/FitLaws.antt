@@ -24,7 +24,7 @@ use Rattle.storage_places.specs.declared.access.Cut.{Cut}
 use Rattle.storage_places.specs.declared.access.Access.{Access}
 use Rattle.storage_places.specs.declared.access.NamedAccess.{NamedAccess}
 use Rattle.storage_places.specs.Resolved as resolved
-use Rattle.storage_places.specs.Fits.{IsNumber, KindFits, TakesText, NumberFits, BoundFits, BoundIfFits, CutFits, Fits, ItemFits, LayoutFits, area_lengths}
+use Rattle.storage_places.specs.Fits.{IsNumber, KindFits, TakesText, BoundFits, BoundIfFits, CutFits, Fits, ItemFits, LayoutFits, area_lengths}
 
 at-number : (P : Item → Type 0) (items : List Item) (k : ℕ) (item : Item) → AllByRecursion P items → slice_get items k ≡ Some item → P item
 at-number P [] k item all is = absurd (none-some item is)
@@ -43,7 +43,7 @@ module _ (l : Layout) (fit : LayoutFits l) where
   by-meaning found.Unknown item is = absurd (none-some item is)
   by-meaning found.Twice item is = absurd (none-some item is)
 
-  item-fits : (names : List (List ℕ)) (item : Item) → resolved.item_named l names ≡ Some item → ItemFits (first_area l.areas) (area_lengths l) item
+  pub item-fits : (names : List (List ℕ)) (item : Item) → resolved.item_named l names ≡ Some item → ItemFits (first_area l.areas) (area_lengths l) item
   item-fits names item is = by-meaning (meaning l names) item is
 
   by-class : (item : Item) (c : Class) (b : Bound) → item.class ≡ c → ItemFits (first_area l.areas) (area_lengths l) item → resolved.bound_by c item ≡ Some b → BoundFits (first_area l.areas) (area_lengths l) b

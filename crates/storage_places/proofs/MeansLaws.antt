@@ -81,7 +81,7 @@ module _ (program : Program) (l : Layout) (ids : AreNumbered (first_area l.areas
   by-meaning name qs word item found.Unknown means is = absurd (none-some item is)
   by-meaning name qs word item found.Twice means is = absurd (none-some item is)
 
-  item-named : (names : List (List ℕ)) (item : Item) → IsWord names → resolved.item_named l names ≡ Some item → IsItem program l names item
+  pub item-named : (names : List (List ℕ)) (item : Item) → IsWord names → resolved.item_named l names ≡ Some item → IsItem program l names item
   item-named [] item word is = absurd (none-some item is)
   item-named (name ∷ qs) item word is = by-meaning name qs word item (meaning l (name ∷ qs)) refl is
 

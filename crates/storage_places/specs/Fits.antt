@@ -12,7 +12,8 @@ use Rattle.layout_reading.specs.Reading.{read_area, first_area}
 use Rattle.operand_kinds.specs.declared.kind.Kind.{Kind}
 use Rattle.operand_kinds.specs.declared.kind.Kind.TheVariants as kinds
 use Rattle.operand_kinds.specs.Kinds.{kind_of_item}
-use Rattle.layout_reading.specs.Kinds.{symbols}
+use Rattle.layout_reading.specs.Kinds.{symbols, read_form}
+use Rattle.program_meaning.specs.Kind.{edited_form}
 use Rattle.number_bytes.specs.Held.{number_length}
 use Rattle.storage_places.specs.declared.access.NumberItem.{NumberItem}
 use Rattle.storage_places.specs.declared.access.Bound.{Bound}
@@ -30,17 +31,24 @@ farthest (s ∷ ss) = (s.count - 1) * s.size + farthest ss
 abbrev pub last_span : Span → List Step → Span
 last_span span steps = record { area = span.area; offset = span.offset + farthest steps; length = span.length }
 
--- a number has 1 to 18 digits, and as many bytes as its form says
+-- a number has 1 to 18 digits, of which as many stand after the point as its form says, and as many bytes
 pub record IsNumber (usage : Usage) (form : NumForm) (length : ℕ) : Type 0 where
   pub some_digits : 1 ≤ form.digits
   pub at_most_18 : form.digits ≤ 18
+  pub scale : form.scale ≤ form.digits
   pub bytes : length ≡ number_length usage form
+
+-- an edited item has a byte for each place of its picture, and its form is that of the picture
+pub record IsEdited (form : NumForm) (picture : Option Picture) (bytes : ℕ) : Type 0 where
+  pub places : bytes ≡ length (symbols picture)
+  pub same_form : read_form form ≡ edited_form (symbols picture)
+  pub at_most_18 : form.digits ≤ 18
 
 -- an item of a kind has as many bytes as its picture says
 abbrev pub KindFits : Kind → Option Picture → ℕ → Type 0
 KindFits kinds.Group picture bytes = Unit {0}
 KindFits kinds.Text picture bytes = Unit {0}
-KindFits (kinds.Edited form) picture bytes = bytes ≡ length (symbols picture)
+KindFits (kinds.Edited form) picture bytes = IsEdited form picture bytes
 KindFits (kinds.Number usage form) picture bytes = IsNumber usage form bytes
 
 -- a reference is taken as a text

@@ -1,4 +1,5 @@
 pub mod Fits
+pub mod Forms
 pub mod Held
 pub mod Means
 pub mod Meets

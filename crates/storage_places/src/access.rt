@@ -1,3 +1,5 @@
+ghost use Rattle.std.specs.Prelude.{◌≡◌};
+
 use cobol_syntax::Usage;
 use data_layout::Step;
 use decimal_bytes::NumForm;
@@ -44,6 +46,16 @@ pub struct Access {
 pub struct NamedAccess {
     pub name: u32,
     pub access: Access,
+}
+
+impl NamedAccess {
+    /// The item alone.
+    pub fn into_access(self) -> Access
+        ensures { result ≡ self.access }
+    {
+        let NamedAccess { name: _, access } = self;
+        access
+    }
 }
 
 impl Drop for NamedAccess {

@@ -1,14 +1,15 @@
 ghost use Rattle.std.specs.Prelude.{◌≡◌, ◌+◌, ◌-◌, ◌*◌, ◌^◌, ◌<◌, ◌≤◌, IsTrue, IfSome, IfNone, cond, nat_le, length, map, slice_index_or};
 ghost use Rattle.decimal_bytes.specs.Display as display;
-ghost use Rattle.layout_reading.specs.Kinds.{symbols};
+ghost use Rattle.layout_reading.specs.Kinds as kinds_read;
 ghost use Rattle.layout_reading.specs.Reading.{read_area, first_area};
 ghost use Rattle.number_bytes.specs.Held as numbers;
+ghost use Rattle.number_bytes.specs.Stored.{symbols};
 ghost use Rattle.operand_kinds.specs.Kinds as kinds;
 ghost use Rattle.storage_places.specs.Fits as spec;
-ghost use Rattle.storage_places.specs.Fits.{IsNumber, KindFits, ItemFits, LayoutFits, farthest};
+ghost use Rattle.storage_places.specs.Fits.{IsNumber, IsEdited, KindFits, ItemFits, LayoutFits, farthest};
 ghost use Rattle.storage_places.specs.Held.{IsWithin};
-ghost use Rattle.tree_reading.specs.Reading.{written_out};
 
+use crate::pictures::{is_form_of, places};
 use cobol_syntax::Usage;
 use data_layout::{Area, Item, Layout, Step};
 use decimal_bytes::{NumForm, SignPlace};
@@ -126,43 +127,37 @@ fn kind_fits(kind: Kind, picture: &Option<Picture>, bytes: u32) -> bool
     match kind {
         Kind::Group => true,
         Kind::Text => true,
-        Kind::Edited { form: _ } => places(picture) == Some(bytes),
+        Kind::Edited { form } => is_edited(form, picture, bytes),
         Kind::Number { usage, form } => is_number(usage, form, bytes),
     }
 }
 
-/// How many places a picture has, if the number is within 32 bits.
-fn places(picture: &Option<Picture>) -> Option<u32>
-    ensures some { IfSome result (λ places. places ≡ length (symbols picture.now)) }
-    ensures none { IfNone result (2 ^ 32 ≤ length (symbols picture.now)) }
+fn is_edited(form: NumForm, picture: &Option<Picture>, bytes: u32) -> bool
+    ensures edited { IsTrue result → IsEdited form picture.now bytes }
+    ensures all { IsEdited form picture.now bytes → IsTrue result }
 {
-    match picture {
-        Some(picture) => run_places(picture.runs.items()),
-        None => Some(0),
-    }
+    let runs = runs_of(picture);
+    form.digits <= 18 && places(runs) == Some(bytes) && is_form_of(form, runs)
 }
 
-fn run_places(runs: &[Run]) -> Option<u32>
-    ensures some { IfSome result (λ places. places ≡ length (written_out runs.now)) }
-    ensures none { IfNone result (2 ^ 32 ≤ length (written_out runs.now)) }
+/// The runs of a picture; none where there is no picture.
+fn runs_of(picture: &Option<Picture>) -> &[Run]
+    ensures { symbols result.now ≡ kinds_read.symbols picture.now }
 {
-    let mut places = 0u32;
-    let mut rest = runs;
-    while let [run, more @ ..] = rest {
-        if run.count > u32::MAX - places {
-            return None;
-        }
-        places += run.count;
-        rest = more;
+    match picture {
+        Some(picture) => picture.runs.items(),
+        None => &[],
     }
-    Some(places)
 }
 
 fn is_number(usage: Usage, form: NumForm, bytes: u32) -> bool
     ensures number { IsTrue result → IsNumber usage form bytes }
     ensures all { IsNumber usage form bytes → IsTrue result }
 {
-    1 <= form.digits && form.digits <= 18 && bytes == number_length(usage, form)
+    1 <= form.digits
+        && form.digits <= 18
+        && form.scale <= form.digits
+        && bytes == number_length(usage, form)
 }
 
 /// How many bytes a number of a usage and form has.

@@ -5,6 +5,8 @@
 mod access;
 mod fault;
 mod fitting;
+mod forms;
+mod pictures;
 mod reaching;
 mod resolving;
 mod storage;
@@ -14,5 +16,6 @@ mod tests;
 pub use access::{Access, Bound, Cut, NamedAccess, NumberItem};
 pub use fault::RunFault;
 pub use fitting::layout_fits;
+pub use forms::item_form;
 pub use resolving::{resolve, resolve_named};
 pub use storage::Storage;

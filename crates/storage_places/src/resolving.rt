@@ -96,7 +96,7 @@ fn numbered_access(
 }
 
 /// The item that a name means.
-fn item_named<'a>(layout: &'a Layout, names: &[Bytes]) -> Option<&'a Item>
+pub(crate) fn item_named<'a>(layout: &'a Layout, names: &[Bytes]) -> Option<&'a Item>
     requires { IsReady layout.now }
     ensures item { option_map (λ item. item.now) result ≡ spec.item_named layout.now names.now }
     ensures words { IsWord names.now }

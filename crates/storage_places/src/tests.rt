@@ -55,6 +55,13 @@ fn layout_of_table(alloc: Global) -> Result<Layout, LayoutFault>
     storage.push(entry_of(alloc, 10, b'B', b"X(3)", None)?)?;
     storage.push(entry_of(alloc, 77, b'X', b"X(4)", None)?)?;
     storage.push(entry_of(alloc, 77, b'N', b"9", None)?)?;
+    laid_out(alloc, storage)
+}
+
+fn laid_out(alloc: Global, storage: List<Entry>) -> Result<Layout, LayoutFault>
+    ensures ready { IfOk result IsReady }
+    ensures numbered { IfOk result (λ layout. AreNumbered (first_area layout.areas) layout.areas) }
+{
     let program = Program {
         id: List::new(alloc),
         words: List::new(alloc),
@@ -64,6 +71,17 @@ fn layout_of_table(alloc: Global) -> Result<Layout, LayoutFault>
         paragraphs: List::new(alloc),
     };
     lay_out(alloc, &program, AreaId(7))
+}
+
+/// Whether a layout with an item of this picture, which occurs so often, fits.
+fn fits_with(alloc: Global, picture: &[u8], occurs: Option<u32>) -> Result<bool, Memory> {
+    let mut storage = List::new(alloc);
+    storage.push(entry_of(alloc, 1, b'G', b"", None)?)?;
+    storage.push(entry_of(alloc, 5, b'E', picture, occurs)?)?;
+    match laid_out(alloc, storage) {
+        Ok(layout) => Ok(layout_fits(&layout)),
+        Err(_) => Err(Memory),
+    }
 }
 
 /// A subscript or a bound of a reference: 99 for the data name N, and else a number.
@@ -175,6 +193,22 @@ fn reached_with(
     Ok(reached(alloc, &layout, &storage, &place))
 }
 
+/// How many digits the item of a name has, of which a reference takes a part where a start isn't 0.
+fn digits_of(alloc: Global, name: u8, start: u32) -> Result<Option<u8>, Memory> {
+    let layout = match layout_of_table(alloc) {
+        Ok(layout) => layout,
+        Err(_) => return Err(Memory),
+    };
+    if !layout_fits(&layout) {
+        return Err(Memory);
+    }
+    let place = place_of(alloc, name, 0, start, 0)?;
+    match item_form(&layout, &place) {
+        Some(form) => Ok(Some(form.digits)),
+        None => Ok(None),
+    }
+}
+
 fn part_of(area: u32, offset: u32, length: u32) -> Span
     ensures { result.length ≡ length }
 {
@@ -218,6 +252,32 @@ fn a_reference_is_read_whole_and_then_checked(rt: HostRuntime) -> Result<(), Fai
     ];
     for (number, cut, span) in rows {
         assert!(rt; reached_with(alloc, number, b'X', 0, cut)? == span);
+    }
+    Ok(())
+}
+
+#[test]
+fn laid_out_items_fit(rt: HostRuntime) -> Result<(), Fail> {
+    let alloc = rt.alloc();
+    assert!(rt; fits_with(alloc, b"X(3)", Some(5))?);
+    assert!(rt; fits_with(alloc, b"S9(7)V99", None)?);
+    assert!(rt; fits_with(alloc, b"Z(3)9", None)?);
+    assert!(rt; fits_with(alloc, b"Z,ZZ9.99-", Some(2))?);
+    assert!(rt; fits_with(alloc, b"99/99/9999", None)?);
+    Ok(())
+}
+
+#[test]
+fn the_form_of_an_item_is_given_with_a_reference(rt: HostRuntime) -> Result<(), Fail> {
+    let alloc = rt.alloc();
+    let rows = [
+        (b'A', 0, Some(2)),
+        (b'N', 1, Some(1)),
+        (b'X', 0, Some(0)),
+        (b'Q', 0, None),
+    ];
+    for (name, start, digits) in rows {
+        assert!(rt; digits_of(alloc, name, start)? == digits);
     }
     Ok(())
 }

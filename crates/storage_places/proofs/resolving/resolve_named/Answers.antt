@@ -1,5 +1,4 @@
-use Rattle.std.proofs.Common.{◌≡◌, ℕ, List, sym, ap, ◌∙◌, subst}
-use Rattle.data_layout.specs.declared.found.Found.{Found}
+use Rattle.std.proofs.Common.{◌≡◌, sym, ap, ◌∙◌, subst}
 use Rattle.data_layout.specs.declared.found.Found.TheVariants as found
 use Rattle.data_layout.specs.Find.{meaning}
 use Rattle.storage_places.specs.Means.{IsWord}

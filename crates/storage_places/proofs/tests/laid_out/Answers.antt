@@ -6,7 +6,7 @@ use Rattle.data_layout.specs.declared.item.Layout.{Layout}
 use Rattle.layout_reading.specs.Numbered.{AreNumbered}
 use Rattle.layout_reading.specs.Reading.{first_area}
 use Rattle.layout_reading.proofs.Numbered.{laid-numbered}
-use Rattle.storage_places.proofs.tests.layout_of_table.Goals as goal
+use Rattle.storage_places.proofs.tests.laid_out.Goals as goal
 
 where_laid : {E : Type 0} (first : AreaId) (program : Program) (r : Result Layout E) → IfOk r (IsLayout first program) → IfOk r (λ layout. AreNumbered (first_area layout.areas) layout.areas)
 where_laid first program (Ok layout) is = laid-numbered first program layout is
