@@ -12,6 +12,4 @@ mod starting;
 mod tests;
 mod values;
 
-pub use literals::are_literals;
-pub use receiving::are_receivable;
 pub use starting::start;

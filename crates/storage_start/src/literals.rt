@@ -6,7 +6,7 @@ use cobol_syntax::{Entry, FileEntry, Operand, Program};
 
 /// Whether each VALUE of a program is a literal or a figure, and each number is written with at most 18 digits. It is so
 /// in each program that is read from a text.
-pub fn are_literals(program: &Program) -> bool
+pub(crate) fn are_literals(program: &Program) -> bool
     ensures literals { IsTrue result → AreLiterals program.now }
     ensures all { AreLiterals program.now → IsTrue result }
 {

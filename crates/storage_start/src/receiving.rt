@@ -16,7 +16,7 @@ use y2k_base::{Memory, Picture, Run};
 
 /// Whether no item of a layout has more than 18 digits after its point. It is so in each layout that breaks no rule of the
 /// data division.
-pub fn are_receivable(layout: &Layout) -> bool
+pub(crate) fn are_receivable(layout: &Layout) -> bool
     ensures receive { IsTrue result → AllByRecursion IsReceivable layout.now.items }
     ensures all { AllByRecursion IsReceivable layout.now.items → IsTrue result }
 {

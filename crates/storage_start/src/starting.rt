@@ -16,8 +16,9 @@ ghost use Rattle.storage_start.specs.Receivable.{IsReceivable};
 ghost use Rattle.tree_reading.specs.Reading.{read_operand};
 ghost use Rattle.value_moves.specs.Given.{receiver_of, IsFor, IsSent};
 
+use crate::literals::are_literals;
 use crate::occurrences::set_each;
-use crate::receiving::received;
+use crate::receiving::{are_receivable, received};
 use crate::sending::{receiver, send};
 use crate::values::{value_at, values_of};
 use cobol_syntax::{Operand, Program};
@@ -27,8 +28,38 @@ use storage_places::Storage;
 use value_moves::{MoveFault, Sent};
 use y2k_base::Memory;
 
-/// The storage with which a program starts.
+/// The storage with which a program starts. A VALUE or an item that no program without faults has is answered as want of
+/// memory.
 pub fn start(alloc: Global, program: &Program, layout: &Layout) -> Result<Storage, Memory>
+    requires fits { LayoutFits layout.now }
+    ensures held { IfOk result (λ storage. held storage ≡ meant_start.start (read_layout program.now layout.now)) }
+    ensures first { IfOk result (λ storage. first storage ≡ first_area layout.now.areas) }
+    ensures lengths { IfOk result (λ storage. lengths (held storage) ≡ area_lengths layout.now) }
+{
+    if are_receivable(layout) {
+        receiving_start(alloc, program, layout)
+    } else {
+        Err(Memory)
+    }
+}
+
+/// The same, where each item can receive a number.
+fn receiving_start(alloc: Global, program: &Program, layout: &Layout) -> Result<Storage, Memory>
+    requires fits { LayoutFits layout.now }
+    requires receives { AllByRecursion IsReceivable layout.now.items }
+    ensures held { IfOk result (λ storage. held storage ≡ meant_start.start (read_layout program.now layout.now)) }
+    ensures first { IfOk result (λ storage. first storage ≡ first_area layout.now.areas) }
+    ensures lengths { IfOk result (λ storage. lengths (held storage) ≡ area_lengths layout.now) }
+{
+    if are_literals(program) {
+        filled(alloc, program, layout)
+    } else {
+        Err(Memory)
+    }
+}
+
+/// Spaces, and then the VALUEs.
+fn filled(alloc: Global, program: &Program, layout: &Layout) -> Result<Storage, Memory>
     requires fits { LayoutFits layout.now }
     requires receives { AllByRecursion IsReceivable layout.now.items }
     requires literals { AreLiterals program.now }

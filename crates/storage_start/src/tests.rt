@@ -1,4 +1,5 @@
-use super::*;
+use crate::literals::are_literals;
+use crate::start;
 use cobol_syntax::{Entry, FileEntry, Operand, Program, Usage};
 use data_layout::lay_out;
 use decimal_bytes::{Scaled, SignPlace};
@@ -148,7 +149,7 @@ fn started(alloc: Global) -> Result<Storage, Memory> {
         Ok(layout) => layout,
         Err(_) => return Err(Memory),
     };
-    if !layout_fits(&layout) || !are_receivable(&layout) || !are_literals(&program) {
+    if !layout_fits(&layout) {
         return Err(Memory);
     }
     let storage = start(alloc, &program, &layout)?;
