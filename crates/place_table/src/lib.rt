@@ -6,6 +6,8 @@ mod naming;
 mod numbers;
 mod places;
 mod same;
+#[cfg(test)]
+mod tests;
 mod view;
 
 pub use places::Places;
