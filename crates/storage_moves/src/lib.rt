@@ -5,6 +5,7 @@
 mod moves;
 mod sending;
 mod showing;
+mod storing;
 
 pub use moves::{move_group, move_item, move_record};
 pub use sending::send;
