@@ -91,12 +91,7 @@ fn send_bytes(alloc: Global, bytes: &[u8], kind: Kind, to: Receiver) -> Result<S
 
 /// What a number literal with so many digits gives to a receiver. The digits of a literal of a program that was read
 /// are at most 18, and the number has no others; for any other there is no memory.
-fn send_written(
-    alloc: Global,
-    value: Scaled,
-    digits: u8,
-    to: Receiver,
-) -> Result<Sent, RunFault>
+fn send_written(alloc: Global, value: Scaled, digits: u8, to: Receiver) -> Result<Sent, RunFault>
     ensures told { (k : kinds.Kind) → values.receiver_of k ≡ to → Tells result (Gives (cond (kinds.is_numeric k)
         (meant.Amount (meant.literal_number value.number value.scale digits)) (meant.Bytes (meant.literal_text value.number digits)))) }
     ensures suits { IfOk result (IsFor to) }

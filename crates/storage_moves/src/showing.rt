@@ -84,12 +84,7 @@ fn show_bytes(alloc: Global, bytes: &[u8], kind: Kind) -> Result<Bytes, RunFault
 }
 
 /// What is shown of a number that isn't in DISPLAY usage.
-fn show_value(
-    alloc: Global,
-    bytes: &[u8],
-    usage: Usage,
-    form: NumForm,
-) -> Result<Bytes, RunFault>
+fn show_value(alloc: Global, bytes: &[u8], usage: Usage, form: NumForm) -> Result<Bytes, RunFault>
     requires some_digits { 1 ≤ form.digits }
     requires at_most_18 { form.digits ≤ 18 }
     requires length { length bytes.now ≡ number_length usage form }

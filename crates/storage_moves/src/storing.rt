@@ -99,12 +99,7 @@ pub(crate) fn store_copy(
 }
 
 /// Fills bytes with one byte.
-fn store_fill(
-    alloc: Global,
-    storage: &mut Storage,
-    byte: u8,
-    span: Span,
-) -> Result<(), Memory>
+fn store_fill(alloc: Global, storage: &mut Storage, byte: u8, span: Span) -> Result<(), Memory>
     requires within { IsWithin (first storage.old) (lengths (held storage.old)) span }
     ensures held { OnOk result (held storage.new
         ≡ write (held storage.old) (read_span (first storage.old) span) (replicate span.length byte)) }
@@ -143,13 +138,7 @@ fn store_edited(
 }
 
 /// Stores what is sent in a number. None has more than 18 digits and a sign.
-fn store_number(
-    storage: &mut Storage,
-    sent: &Sent,
-    usage: Usage,
-    form: NumForm,
-    span: Span,
-)
+fn store_number(storage: &mut Storage, sent: &Sent, usage: Usage, form: NumForm, span: Span)
     requires within { IsWithin (first storage.old) (lengths (held storage.old)) span }
     requires number { IsNumber usage form span.length }
     ensures held { (m : meant.Sent) → IsSent sent.now m → held storage.new

@@ -17,5 +17,5 @@ returns-in_err-view-clause-err c =
     let fault = c.in_err-view.field-0.0 in
     carried (FailsTo (layout_of c.args.places.now) store (tree.At place) c.args.to) c.from_residual.result fault c.from_residual.ensures.1
     (λ program k is.
-        let l : layout.Layout = read_layout program (layout_of c.args.places.now) in
-        may-meet-then (view l store place) (λ (v : View). meant.sent_bytes v.kind k (bytes_at l store v)) fault (c.in_err-view.ensures.err program))
+    let l : layout.Layout = read_layout program (layout_of c.args.places.now) in
+    may-meet-then (view l store place) (λ (v : View). meant.sent_bytes v.kind k (bytes_at l store v)) fault (c.in_err-view.ensures.err program))

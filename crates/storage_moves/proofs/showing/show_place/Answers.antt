@@ -1,5 +1,3 @@
-use Rattle.std.proofs.Common.{ℕ, List}
-use Rattle.program_meaning.specs.Answer.{Answer}
 use Rattle.program_meaning.specs.Layout as layout
 use Rattle.program_meaning.specs.Moves as meant
 use Rattle.program_meaning.specs.Storage.{View, view, bytes_at}

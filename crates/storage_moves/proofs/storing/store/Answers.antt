@@ -1,4 +1,4 @@
-use Rattle.std.proofs.Common.{◌≡◌, ℕ, List, ◌≤◌, length, ap, sym, ◌∙◌, subst, arith}
+use Rattle.std.proofs.Common.{◌≡◌, List, length, ap, sym, ◌∙◌, subst, arith}
 use Rattle.program_meaning.specs.Kind.{Symbol, digits_after, digits_shown}
 use Rattle.program_meaning.specs.Number as number
 use Rattle.layout_reading.specs.Kinds as kinds

@@ -1,6 +1,5 @@
-use Rattle.std.proofs.Common.{◌≡◌, ap, sym, ◌∙◌, subst}
+use Rattle.std.proofs.Common.{ap, sym, ◌∙◌, subst}
 use Rattle.program_meaning.specs.Kind as kind
-use Rattle.program_meaning.specs.Moves as meant
 use Rattle.program_meaning.specs.Number.{at_point}
 use Rattle.storage_places.specs.Held.{held, first}
 use Rattle.value_moves.specs.Given.{IsSent}
