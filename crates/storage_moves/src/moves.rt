@@ -34,7 +34,7 @@ pub fn move_item(
 {
     let kind = places.kind(to)?;
     let sent = send(alloc, places, storage, from, receiver_of(kind))?;
-    deliver(alloc, places, storage, &sent, to)?;
+    deliver(alloc, places, storage, sent, to)?;
     Ok(())
 }
 
@@ -77,7 +77,7 @@ pub fn move_record(
     ensures grown { HasGrown places.old places.new }
 {
     let sent = send(alloc, places, storage, from, Receiver::Group)?;
-    match store_text(alloc, storage, &sent, to) {
+    match store_text(alloc, storage, sent, to) {
         Ok(_) => Ok(()),
         Err(_) => Err(RunFault::Memory),
     }
@@ -88,11 +88,11 @@ fn deliver(
     alloc: Global,
     places: &mut Places<'_>,
     storage: &mut Storage,
-    sent: &Sent,
+    sent: Sent,
     to: &Place,
 ) -> Result<(), RunFault>
     requires storage { IsStorageOf (layout_of places.old) storage.old }
-    ensures ok { OnOk result ((m : meant.Sent) → IsSent sent.now m →
+    ensures ok { OnOk result ((m : meant.Sent) → IsSent sent m →
         Gave (layout_of places.old) (λ l. meant.deliver l (held storage.old) (read_place to.now) m) (held storage.new)) }
     ensures err { IfErr result (λ fault. (m : meant.Sent) →
         Failed (layout_of places.old) (λ l. meant.deliver l (held storage.old) (read_place to.now) m) fault) }

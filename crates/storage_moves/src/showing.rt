@@ -13,6 +13,7 @@ ghost use Rattle.storage_places.specs.declared.fault.RunFault.TheVariants as fau
 ghost use Rattle.tree_reading.specs.Reading.{read_operand, read_place, read_usage};
 ghost use Rattle.y2k_base.specs.declared.picture.Picture.{Picture};
 
+use crate::storing::copy_of;
 use cobol_syntax::{Operand, Place, Usage};
 use decimal_bytes::NumForm;
 use number_bytes::{read_number, shown_number};
@@ -20,7 +21,7 @@ use operand_kinds::Kind;
 use place_table::Places;
 use std::alloc::Global;
 use storage_places::{RunFault, Storage};
-use y2k_base::{Bytes, List, Memory};
+use y2k_base::{Bytes, Memory};
 
 /// The part that DISPLAY shows of an operand.
 pub fn show_item(
@@ -41,8 +42,8 @@ pub fn show_item(
             digits,
             at: _,
         } => shown(shown_number(alloc, value.number, *digits)),
-        Operand::Text { bytes, at: _ } => shown(copied(alloc, bytes.items())),
-        Operand::Figure { byte, at: _ } => shown(copied(alloc, &[*byte])),
+        Operand::Text { bytes, at: _ } => shown(copy_of(alloc, bytes.items())),
+        Operand::Figure { byte, at: _ } => shown(copy_of(alloc, &[*byte])),
     }
 }
 
@@ -72,11 +73,11 @@ fn show_bytes(alloc: Global, bytes: &[u8], kind: Kind) -> Result<Bytes, RunFault
     ensures err { IfErr result (λ fault. (picture : Option Picture) → MayMeet (meant.shown_bytes (kind_with kind picture) bytes.now) fault) }
 {
     match kind {
-        Kind::Group => shown(copied(alloc, bytes)),
-        Kind::Text => shown(copied(alloc, bytes)),
-        Kind::Edited { form: _ } => shown(copied(alloc, bytes)),
+        Kind::Group => shown(copy_of(alloc, bytes)),
+        Kind::Text => shown(copy_of(alloc, bytes)),
+        Kind::Edited { form: _ } => shown(copy_of(alloc, bytes)),
         Kind::Number { usage, form } => match usage {
-            Usage::Display => shown(copied(alloc, bytes)),
+            Usage::Display => shown(copy_of(alloc, bytes)),
             Usage::Packed => show_value(alloc, bytes, usage, form),
             Usage::Binary => show_value(alloc, bytes, usage, form),
         },
@@ -109,12 +110,4 @@ fn shown(text: Result<Bytes, Memory>) -> Result<Bytes, RunFault>
         Ok(text) => Ok(text),
         Err(_) => Err(RunFault::Memory),
     }
-}
-
-fn copied(alloc: Global, bytes: &[u8]) -> Result<Bytes, Memory>
-    ensures { IfOk result (λ copy. copy ≡ bytes.now) }
-{
-    let mut copy = Vec::new(alloc);
-    copy.extend_from_slice(bytes)?;
-    Ok(List::from_vec(copy))
 }

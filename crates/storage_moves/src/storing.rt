@@ -1,4 +1,4 @@
-ghost use Rattle.std.specs.Prelude.{◌≡◌, ◌≤◌, ◌<◌, OnOk, OnErr, length, replicate};
+ghost use Rattle.std.specs.Prelude.{◌≡◌, ◌≤◌, ◌<◌, IfOk, OnOk, OnErr, length, replicate};
 ghost use Rattle.byte_lists.specs.Text.{copied};
 ghost use Rattle.layout_reading.specs.Reading.{read_span};
 ghost use Rattle.number_bytes.specs.Held.{read_form};
@@ -21,21 +21,21 @@ use operand_kinds::Kind;
 use place_table::{Places, View};
 use std::alloc::Global;
 use storage_places::Storage;
-use value_moves::{Sent, copy_text, receive_edited, receive_number};
-use y2k_base::{Memory, Run, Span};
+use value_moves::{Sent, fit_text, receive_edited, receive_number};
+use y2k_base::{Bytes, List, Memory, Run, Span};
 
 /// Stores what is sent where a place is.
 pub(crate) fn store(
     alloc: Global,
     places: &Places<'_>,
     storage: &mut Storage,
-    sent: &Sent,
+    sent: Sent,
     view: View,
 ) -> Result<(), Memory>
     requires within { IsWithin (first storage.old) (lengths (held storage.old)) view.span }
     requires fits { KindFits view.kind (picture_at places.now view.number) view.span.length }
     requires here { view.number < count places.now }
-    ensures held { OnOk result ((m : meant.Sent) → IsSent sent.now m → held storage.new
+    ensures held { OnOk result ((m : meant.Sent) → IsSent sent m → held storage.new
         ≡ stored (held storage.old) (view_at (first storage.old) (kind_with view.kind (picture_at places.now view.number)) view.span) m) }
     ensures stays { OnErr result (held storage.new ≡ held storage.old) }
     ensures first { first storage.new ≡ first storage.old }
@@ -46,22 +46,39 @@ pub(crate) fn store(
         Kind::Text => store_text(alloc, storage, sent, view.span),
         Kind::Edited { form } => {
             let picture = places.picture(view);
-            store_edited(alloc, storage, sent, form.scale, picture, view.span)
+            store_edited(alloc, storage, &sent, form.scale, picture, view.span)
         }
         Kind::Number { usage, form } => {
-            store_number(storage, sent, usage, form, view.span);
+            store_number(storage, &sent, usage, form, view.span);
             Ok(())
         }
     }
 }
 
-/// Stores what is sent in a group or a text. A number has no digits there.
+/// Stores what is sent in a group or a text.
 pub(crate) fn store_text(
     alloc: Global,
     storage: &mut Storage,
-    sent: &Sent,
+    sent: Sent,
     span: Span,
 ) -> Result<(), Memory>
+    requires within { IsWithin (first storage.old) (lengths (held storage.old)) span }
+    ensures text { OnOk result ((m : meant.Sent) → IsSent sent m →
+        held storage.new ≡ stored (held storage.old) (view_at (first storage.old) kind.Text span) m) }
+    ensures group { OnOk result ((m : meant.Sent) → IsSent sent m →
+        held storage.new ≡ stored (held storage.old) (view_at (first storage.old) kind.Group span) m) }
+    ensures stays { OnErr result (held storage.new ≡ held storage.old) }
+    ensures first { first storage.new ≡ first storage.old }
+    ensures lengths { lengths (held storage.new) ≡ lengths (held storage.old) }
+{
+    match sent.into_bytes() {
+        Ok(bytes) => store_bytes(storage, bytes, span),
+        Err(other) => store_other(alloc, storage, &other, span),
+    }
+}
+
+/// The same for what is sent otherwise. A number has no digits in a text.
+fn store_other(alloc: Global, storage: &mut Storage, sent: &Sent, span: Span) -> Result<(), Memory>
     requires within { IsWithin (first storage.old) (lengths (held storage.old)) span }
     ensures text { OnOk result ((m : meant.Sent) → IsSent sent.now m →
         held storage.new ≡ stored (held storage.old) (view_at (first storage.old) kind.Text span) m) }
@@ -92,10 +109,31 @@ pub(crate) fn store_copy(
     ensures first { first storage.new ≡ first storage.old }
     ensures lengths { lengths (held storage.new) ≡ lengths (held storage.old) }
 {
-    let mut text = vec![in alloc; b' '; span.length as usize]?;
-    copy_text(from, &mut text);
-    storage.set(span, &text);
+    let text = copy_of(alloc, from)?;
+    store_bytes(storage, text, span)?;
     Ok(())
+}
+
+/// Stores a text, cut or filled with spaces.
+fn store_bytes(storage: &mut Storage, text: Bytes, span: Span) -> Result<(), Memory>
+    requires within { IsWithin (first storage.old) (lengths (held storage.old)) span }
+    ensures held { OnOk result (held storage.new
+        ≡ write (held storage.old) (read_span (first storage.old) span) (copied span.length text)) }
+    ensures stays { OnErr result (held storage.new ≡ held storage.old) }
+    ensures first { first storage.new ≡ first storage.old }
+    ensures lengths { lengths (held storage.new) ≡ lengths (held storage.old) }
+{
+    let text = fit_text(text, span.length as usize)?;
+    storage.set(span, text.items());
+    Ok(())
+}
+
+pub(crate) fn copy_of(alloc: Global, bytes: &[u8]) -> Result<Bytes, Memory>
+    ensures { IfOk result (λ copy. copy ≡ bytes.now) }
+{
+    let mut copy = Vec::new(alloc);
+    copy.extend_from_slice(bytes)?;
+    Ok(List::from_vec(copy))
 }
 
 /// Fills bytes with one byte.

@@ -6,7 +6,7 @@ use Rattle.value_moves.specs.Given.{IsSent}
 use Rattle.value_moves.specs.declared.sent.Sent.{Sent}
 use Rattle.storage_moves.specs.Stored.{view_at, stored}
 use Rattle.storage_moves.proofs.StoredLaws.{write-digits-none}
-use Rattle.storage_moves.proofs.storing.store_text.Goals as goal
+use Rattle.storage_moves.proofs.storing.store_other.Goals as goal
 
 pub returns-in-Amount-clause-text : goal.returns-in-Amount-clause-text
 returns-in-Amount-clause-text c = λ m given.
