@@ -1,4 +1,4 @@
-ghost use Rattle.std.specs.Prelude.{◌≡◌, ◌^◌, ◌<◌, ◌≤◌, IfOk, IfErr, IsTrue, Option, cond, length, unsigned_abs};
+ghost use Rattle.std.specs.Prelude.{◌≡◌, ◌↔◌, ◌^◌, ◌<◌, ◌≤◌, IfOk, IfErr, IsTrue, Option, cond, length, unsigned_abs};
 ghost use Rattle.cobol_syntax.specs.declared.program.Program.{Program};
 ghost use Rattle.layout_reading.specs.Kinds.{IsReadAs};
 ghost use Rattle.layout_reading.specs.Reading.{read_layout};
@@ -89,8 +89,8 @@ fn send_bytes(alloc: Global, bytes: &[u8], kind: Kind, to: Receiver) -> Result<S
     }
 }
 
-/// What a number literal with so many digits gives to a receiver. The digits of a literal of a program that was read
-/// are at most 18, and the number has no others; for any other there is no memory.
+/// What a number literal gives to a receiver. In a program that was read it has at most 18 digits, which write its
+/// number; any other is answered by want of memory.
 fn send_written(alloc: Global, value: Scaled, digits: u8, to: Receiver) -> Result<Sent, RunFault>
     ensures told { (k : kinds.Kind) → values.receiver_of k ≡ to → Tells result (Gives (cond (kinds.is_numeric k)
         (meant.Amount (meant.literal_number value.number value.scale digits)) (meant.Bytes (meant.literal_text value.number digits)))) }
@@ -105,7 +105,7 @@ fn send_written(alloc: Global, value: Scaled, digits: u8, to: Receiver) -> Resul
 /// Whether so many digits write a number.
 fn has_digits(number: i128, digits: u8) -> bool
     requires at_most_18 { digits ≤ 18 }
-    ensures fits { IsTrue result → unsigned_abs number < 10 ^ digits }
+    ensures fits { IsTrue result ↔ unsigned_abs number < 10 ^ digits }
 {
     number.unsigned_abs() < 10u128.pow(u32::from(digits))
 }

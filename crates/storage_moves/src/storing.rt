@@ -77,7 +77,7 @@ pub(crate) fn store_text(
     }
 }
 
-/// The same for what is sent otherwise. A number has no digits in a text.
+/// Stores a byte that fills, or what else is sent, in a group or a text. A number has no digits there.
 fn store_other(alloc: Global, storage: &mut Storage, sent: &Sent, span: Span) -> Result<(), Memory>
     requires within { IsWithin (first storage.old) (lengths (held storage.old)) span }
     ensures text { OnOk result ((m : meant.Sent) → IsSent sent.now m →

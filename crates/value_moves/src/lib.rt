@@ -6,6 +6,8 @@ mod amount;
 mod receiving;
 mod sending;
 mod sent;
+#[cfg(test)]
+mod tests;
 
 pub use amount::Amount;
 pub use receiving::{copy_text, fill, fit_text, receive_edited, receive_number, receive_text};
