@@ -74,18 +74,29 @@ fn stored(sent: &Sent, usage: Usage, form: NumForm) -> [u8; 20] {
     bytes
 }
 
-const fn run(symbol: u8, count: u32) -> Run {
-    Run { symbol, count }
-}
-
 /// The bytes of a `ZZ9.99-` that receives what is sent.
 fn edited(sent: &Sent) -> [u8; 7] {
     let picture = [
-        run(b'Z', 2),
-        run(b'9', 1),
-        run(b'.', 1),
-        run(b'9', 2),
-        run(b'-', 1),
+        Run {
+            symbol: b'Z',
+            count: 2,
+        },
+        Run {
+            symbol: b'9',
+            count: 1,
+        },
+        Run {
+            symbol: b'.',
+            count: 1,
+        },
+        Run {
+            symbol: b'9',
+            count: 2,
+        },
+        Run {
+            symbol: b'-',
+            count: 1,
+        },
     ];
     let mut bytes = [b'?'; 7];
     receive_edited(sent, 2, &picture, &mut bytes);
