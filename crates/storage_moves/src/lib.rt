@@ -5,6 +5,9 @@
 mod moves;
 mod sending;
 mod showing;
+mod storing;
+#[cfg(test)]
+mod tests;
 
 pub use moves::{move_group, move_item, move_record};
 pub use sending::send;

@@ -1,8 +1,8 @@
 -- Laws of texts that are copied byte by byte.
 use Rattle.std.proofs.Common.{◌≡◌, ℕ, ◌+◌, ◌-◌, ◌<◌, ◌≤◌, List, [], ◌∷◌, ◌++◌, length, take, get_or, set, replicate, slice_index_or, refl, sym, ap, ◌∙◌, inl, inr, arith}
 use Rattle.std.proofs.lemmas.Bool.{cases_lt}
-use Rattle.std.proofs.lemmas.List.{length-append, length-replicate, get_or_append_left, get_or-append_right, get_or-replicate, get_or_default, get_or_past, take_more, take_more_set}
-use Rattle.byte_lists.specs.Text.{filled}
+use Rattle.std.proofs.lemmas.List.{length-append, length-replicate, get_or_append_left, get_or-append_right, get_or-replicate, get_or_default, get_or_past, take_more, take_more_set, append-nil, take-append-le, take_all}
+use Rattle.byte_lists.specs.Text.{filled, copied}
 
 length-filled : (n : ℕ) (xs : List ℕ) → n ≤ length (filled n xs)
 length-filled n xs = omega (arith, length-append xs (replicate (n - length xs) 32), length-replicate {A = ℕ} (n - length xs) 32)
@@ -14,6 +14,16 @@ filled_at xs n i within =
       | inl inside ↦ get_or_append_left xs (replicate (n - length xs) 32) 0 i inside ∙ get_or_default xs i 0 32 inside
       | inr behind ↦ let room : i - length xs < n - length xs = omega arith in
           get_or-append_right xs (replicate (n - length xs) 32) (length xs) i 0 refl behind ∙ get_or-replicate (n - length xs) (i - length xs) 32 0 room ∙ sym (get_or_past xs i 32 behind)
+    ]
+
+-- a text that is cut first and then filled
+pub fitted : (n : ℕ) (xs : List ℕ) → take n xs ++ replicate (n - length xs) 32 ≡ copied n xs
+fitted n xs =
+    elim (cases_lt n (length xs)) [
+      | inl cut ↦ let none : n - length xs ≡ 0 = omega (arith, cut) in let short : n ≤ length xs = omega (arith, cut) in
+          ap (λ (k : ℕ). take n xs ++ replicate k 32) none ∙ append-nil (take n xs) ∙ sym (take-append-le n xs (replicate (n - length xs) 32) short)
+      | inr fills ↦ let all : length (filled n xs) ≤ n = omega (arith, fills, length-append xs (replicate (n - length xs) 32), length-replicate {A = ℕ} (n - length xs) 32) in
+          ap (λ (front : List ℕ). front ++ replicate (n - length xs) 32) (take_all n xs fills) ∙ sym (take_all n (filled n xs) all)
     ]
 
 -- one byte more

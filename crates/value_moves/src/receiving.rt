@@ -1,4 +1,4 @@
-ghost use Rattle.std.specs.Prelude.{◌≡◌, ◌≤◌, ◌^◌, length, replicate, slice_index_or};
+ghost use Rattle.std.specs.Prelude.{◌≡◌, ◌≤◌, ◌^◌, length, replicate, slice_index_or, IfOk};
 ghost use Rattle.byte_lists.specs.Text.{copied};
 ghost use Rattle.program_meaning.specs.Kind as kind;
 ghost use Rattle.program_meaning.specs.Kind.{digits_after};
@@ -13,7 +13,7 @@ use crate::sent::Sent;
 use cobol_syntax::Usage;
 use decimal_bytes::NumForm;
 use number_bytes::{at_point, store_edited, store_number};
-use y2k_base::Run;
+use y2k_base::{Bytes, List, Memory, Run};
 
 /// What a group or a text makes of what is sent to it: a copy from the left, cut or filled with spaces.
 pub fn receive_text(sent: &Sent, into: &mut [u8])
@@ -62,6 +62,15 @@ pub fn receive_edited(sent: &Sent, scale: u8, picture: &[Run], into: &mut [u8])
         Sent::Amount(amount) => store_edited(at_point(amount.number, scale), picture, into),
         Sent::Fill(byte) => fill(*byte, into),
     }
+}
+
+/// A text cut or filled with spaces, as `copy_text` copies it.
+pub fn fit_text(text: Bytes, length: usize) -> Result<Bytes, Memory>
+    ensures { IfOk result (λ fitted. fitted ≡ copied length text) }
+{
+    let mut bytes = text.into_vec();
+    bytes.resize(length, b' ')?;
+    Ok(List::from_vec(bytes))
 }
 
 /// Copies a text from the left, cut or filled with spaces.

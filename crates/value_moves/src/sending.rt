@@ -10,7 +10,8 @@ ghost use Rattle.value_moves.specs.Given.{receiver_of, IsFor, IsSent, Answers};
 ghost use Rattle.value_moves.specs.declared.sent.Receiver.{Receiver};
 ghost use Rattle.value_moves.specs.declared.sent.Receiver.TheVariants as receiver;
 
-use crate::sent::{Amount, MoveFault, Receiver, Sent};
+use crate::amount::Amount;
+use crate::sent::{MoveFault, Receiver, Sent};
 use cobol_syntax::Usage;
 use decimal_bytes::{NumForm, Scaled};
 use number_bytes::{put_digits, read_number, text_number};

@@ -1,6 +1,7 @@
-ghost use Rattle.std.specs.Prelude.{◌<◌, ◌^◌, unsigned_abs};
+ghost use Rattle.std.specs.Prelude.{◌≡◌, ◌≢◌, ℕ, List, IfOk, IfErr, OnErr};
+ghost use Rattle.value_moves.specs.declared.sent.Sent.TheVariants as sent;
 
-use decimal_bytes::Scaled;
+use crate::amount::Amount;
 use y2k_base::Bytes;
 
 /// What a sender gives: bytes, a number, or a byte that fills the receiver.
@@ -20,11 +21,18 @@ impl Drop for Sent {
     }
 }
 
-/// A number that bytes or a literal hold.
-#[derive(Clone, Copy)]
-pub struct Amount {
-    pub number: Scaled,
-    ghost small: { unsigned_abs number.number < 10 ^ 19 },
+impl Sent {
+    /// The bytes that are sent, or else what is.
+    pub fn into_bytes(self) -> Result<Bytes, Sent>
+        ensures bytes { IfOk result (λ bytes. self ≡ sent.Bytes bytes) }
+        ensures same { IfErr result (λ same. same ≡ self) }
+        ensures other { OnErr result ((bytes : List ℕ) → self ≢ sent.Bytes bytes) }
+    {
+        match self {
+            Sent::Bytes(bytes) => Ok(bytes),
+            same => Err(same),
+        }
+    }
 }
 
 /// What a sender looks at in a receiver. Numbers and edited items are aligned at the point.
