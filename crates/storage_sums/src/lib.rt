@@ -2,8 +2,11 @@
 //! arithmetic statements are read (ISO 1989:1985, Nucleus: arithmetic expressions; the COMPUTE statement).
 #![tactic(auto)]
 
+mod chain;
 mod computing;
+mod faults;
 mod values;
+mod writing;
 
 pub use computing::compute;
 pub use values::{operand_value, value};

@@ -1,0 +1,4 @@
+pub mod FailLaws
+pub mod GrowLaws
+pub mod ChainLaws
+pub mod WriteLaws
