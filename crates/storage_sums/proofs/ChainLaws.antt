@@ -2,7 +2,7 @@
 use Rattle.std.proofs.Common.{◌≡◌, ℕ, ◌≤◌, ◌<◌, List, [], ◌∷◌, ◌++◌, refl, ap, sym, ◌∙◌, subst, arith}
 use Rattle.std.specs.List.{AllByRecursion}
 use Rattle.program_meaning.specs.Answer.{Answer, Fault, Gives, Fails, and_then}
-use Rattle.program_meaning.specs.Arithmetic.{Scaled, value}
+use Rattle.program_meaning.specs.Arithmetic.{Scaled, value, operand_value}
 use Rattle.program_meaning.specs.Layout.{Layout}
 use Rattle.program_meaning.specs.Storage.{Storage}
 use Rattle.program_meaning.specs.Tree as tree
@@ -36,6 +36,11 @@ pub below_end : (size : ℕ) (ts : List Term) (t : Term) → AllByRecursion (IsB
 below_end size [] t all = all.0
 below_end size (first ∷ ts) t all = below_end size ts t all.1
 
+pub below_popped : (size : ℕ) (ts front : List Term) (t : Term) → ts ≡ front ++ t ∷ [] → AllByRecursion (IsBelow size) ts → AllByRecursion (IsBelow size) front × IsBelow size t
+below_popped size ts front t popped all =
+    let whole : AllByRecursion (IsBelow size) (front ++ t ∷ []) = subst (AllByRecursion (IsBelow size)) popped all in
+    (below_front size front t whole, below_end size front t whole)
+
 module _ (layout : Layout) (store : Storage) where
   value_operation : (t : Term) (x : tree.Expr) → value layout store (operation t x) ≡ operated layout store t (value layout store x)
   value_operation term.Minus x = refl
@@ -48,9 +53,16 @@ module _ (layout : Layout) (store : Storage) where
   value_chained [] x = refl
   value_chained (t ∷ ts) x = value_operation t (chained ts x) ∙ ap (operated layout store t) (value_chained ts x)
 
+  -- an expression that was taken apart
+  pub value_whole : (ts : List Term) (o : tree.Operand) (whole : tree.Expr) → chained ts (tree.One o) ≡ whole → value layout store whole ≡ all_operated layout store ts (operand_value layout store o)
+  value_whole ts o whole is = ap (value layout store) (sym is) ∙ value_chained ts (tree.One o)
+
   pub operated_last : (ts : List Term) (t : Term) (a : Answer Scaled) → all_operated layout store (ts ++ t ∷ []) a ≡ all_operated layout store ts (operated layout store t a)
   operated_last [] t a = refl
   operated_last (first ∷ ts) t a = ap (operated layout store first) (operated_last ts t a)
+
+  pub value_popped : (ts front : List Term) (t : Term) (a whole : Answer Scaled) → ts ≡ front ++ t ∷ [] → whole ≡ all_operated layout store ts a → whole ≡ all_operated layout store front (operated layout store t a)
+  value_popped ts front t a whole popped is = is ∙ ap (λ (xs : List Term). all_operated layout store xs a) popped ∙ operated_last front t a
 
   operation_fails : (t : Term) (e : Fault) → operated layout store t (Fails e) ≡ Fails e
   operation_fails term.Minus e = refl

@@ -30,6 +30,13 @@ fails_then {B = B} a f x e gives h = subst (λ y. MayMeet (and_then {B = B} y f)
 pub gives_then : {A B : Type 0} (a : Answer A) (f : A → Answer B) (x : A) (y : B) → a ≡ Gives x → f x ≡ Gives y → and_then a f ≡ Gives y
 gives_then {B = B} a f x y gives h = subst (λ z. and_then {B = B} z f ≡ Gives y) (sym gives) h
 
+-- the same answer in another form
+pub fails_by : {A : Type 0} (a b : Answer A) (e : RunFault) → a ≡ b → MayMeet b e → MayMeet a e
+fails_by a b e same h = subst (λ x. MayMeet x e) (sym same) h
+
+pub meets_by : {A : Type 0} (a b : Answer A) (e : RunFault) → a ≡ b → Meets a e → MayMeet b e
+meets_by a b e same h = subst (λ x. MayMeet x e) same (meets a e h)
+
 -- what is made of an answer, and then what depends on it
 pub then_made : {A B C : Type 0} (a : Answer A) (f : A → B) (g : B → Answer C) → and_then a (λ x. g (f x)) ≡ and_then (and_then a (λ x. Gives (f x))) g
 then_made (Gives x) f g = refl

@@ -1,5 +1,5 @@
 use Rattle.std.specs.Int.{w128}
-use Rattle.std.proofs.Common.{◌≡◌, ◌&&◌, Bool, ℤ, Option, Some, SFits, cond, rules, refl, ap, sym, ◌∙◌, subst}
+use Rattle.std.proofs.Common.{◌≡◌, ◌&&◌, Bool, ℤ, Option, Some, SFits, cond, to_z, of_z, rules, refl, ap, sym, ◌∙◌, subst}
 use Rattle.std.proofs.lemmas.Int.{to_z-of_z}
 use Rattle.cobol_syntax.specs.declared.program.Program.{Program}
 use Rattle.data_layout.specs.declared.item.Layout.{Layout}
@@ -50,7 +50,7 @@ returns-in_err-rest-clause-err c =
         subst (λ (z : ℤ). meant.written_rest l store (Some to) z store ≡ Gives after) (to_z-of_z w128 n n_fits) (c.in_ok-receiver.ensures.ok store program) in
         let fails : MayMeet (meant.written_rest l store rest m after) e =
         subst (λ (z : ℤ). MayMeet (meant.written_rest l store rest z after) e) (to_z-of_z w128 m m_fits)
-        (subst (λ (places : Layout). MayMeet (meant.written_rest (read_layout program places) store rest _ after) e) c.in_ok-receiver.ensures.grown.layout (c.in_err-rest.ensures.err after program)) in
+        (subst (λ (places : Layout). MayMeet (meant.written_rest (read_layout program places) store rest (to_z w128 (of_z w128 m)) after) e) c.in_ok-receiver.ensures.grown.layout (c.in_err-rest.ensures.err after program)) in
         subst (λ (a : Answer (Bool × Storage)). MayMeet a e) (sym (written_as l store c.args.phrase to rest (read_outcome c.args.outcome))) (fails_then _ _ after e gives (fails_first _ _ e fails)))
 
 pub returns-clause-ok : goal.returns-clause-ok
@@ -70,7 +70,7 @@ returns-clause-ok c = λ program.
     subst (λ (z : ℤ). meant.written_rest l store (Some to) z store ≡ Gives after) (to_z-of_z w128 n n_fits) (c.in_ok-receiver.ensures.ok store program) in
     let then : meant.written_rest l store rest m after ≡ Gives both =
     subst (λ (z : ℤ). meant.written_rest l store rest z after ≡ Gives both) (to_z-of_z w128 m m_fits)
-    (subst (λ (places : Layout). meant.written_rest (read_layout program places) store rest _ after ≡ Gives both) c.in_ok-receiver.ensures.grown.layout (c.in_ok-rest.ensures.ok after program)) in
+    (subst (λ (places : Layout). meant.written_rest (read_layout program places) store rest (to_z w128 (of_z w128 m)) after ≡ Gives both) c.in_ok-receiver.ensures.grown.layout (c.in_ok-rest.ensures.ok after program)) in
     let held_now : held c.put_unless.new.storage ≡ cond (error && c.args.phrase) store both =
     c.put_unless.ensures.held ∙ ap (λ (b : Bool). cond b store both) c.both.ensures in
     written_as l store c.args.phrase to rest (read_outcome c.args.outcome)
