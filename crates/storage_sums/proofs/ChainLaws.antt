@@ -1,7 +1,7 @@
 -- Expressions along their first operands.
-use Rattle.std.proofs.Common.{◌≡◌, ℕ, ◌≤◌, ◌<◌, List, [], ◌∷◌, ◌++◌, refl, ap, sym, ◌∙◌, subst, arith}
+use Rattle.std.proofs.Common.{◌≡◌, ℕ, List, [], ◌∷◌, ◌++◌, refl, ap, sym, ◌∙◌, subst}
 use Rattle.std.specs.List.{AllByRecursion}
-use Rattle.program_meaning.specs.Answer.{Answer, Fault, Gives, Fails, and_then}
+use Rattle.program_meaning.specs.Answer.{Answer, Fault, Fails}
 use Rattle.program_meaning.specs.Arithmetic.{Scaled, value, operand_value}
 use Rattle.program_meaning.specs.Layout.{Layout}
 use Rattle.program_meaning.specs.Storage.{Storage}

@@ -6,7 +6,7 @@ use Rattle.exact_arithmetic.specs.declared.outcome.Outcome.{Outcome}
 use Rattle.exact_arithmetic.specs.Answers.{read_outcome}
 use Rattle.layout_reading.specs.Reading.{read_layout}
 use Rattle.place_table.specs.Tables.{Gave, Failed}
-use Rattle.program_meaning.specs.Answer.{Answer, Gives, and_then}
+use Rattle.program_meaning.specs.Answer.{Answer, and_then}
 use Rattle.program_meaning.specs.Arithmetic as meant
 use Rattle.program_meaning.specs.Layout.{Layout}
 use Rattle.program_meaning.specs.Number.{NumForm}

@@ -1,10 +1,10 @@
 -- Tables of places that grow.
-use Rattle.std.proofs.Common.{◌≡◌, ℕ, ◌<◌, ◌≤◌, refl, sym, subst, ◌∙◌, arith}
+use Rattle.std.proofs.Common.{◌<◌, ◌≤◌, refl, sym, subst, ◌∙◌, arith}
 use Rattle.data_layout.specs.declared.item.Layout.{Layout}
 use Rattle.storage_places.specs.declared.storage.Storage.{Storage}
 use Rattle.place_table.specs.declared.places.Places.{Places}
 use Rattle.place_table.specs.Tables.{layout_of, IsStorageOf}
-use Rattle.place_table.specs.Views.{HasGrown, count, picture_at}
+use Rattle.place_table.specs.Views.{HasGrown, count}
 
 pub same_places : (places : Places) → HasGrown places places
 same_places places = record { layout = refl; more = omega arith; kept = λ k here. refl }

@@ -1,6 +1,6 @@
 -- Expressions along their first operands: the first operand of all, and the operations on it.
 use Rattle.std.specs.Prelude.{◌<◌, ℕ, neg_ℤ, List, [], ◌∷◌, Option, Some, None}
-use Rattle.cobol_syntax.specs.declared.expr.Expr.{Expr, size-Expr}
+use Rattle.cobol_syntax.specs.declared.expr.Expr.{size-Expr}
 use Rattle.program_meaning.specs.Answer.{Answer, and_then}
 use Rattle.program_meaning.specs.Arithmetic.{Scaled, narrow_at, add, subtract, multiply, divide, both, value}
 use Rattle.program_meaning.specs.Layout.{Layout}

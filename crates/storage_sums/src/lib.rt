@@ -5,6 +5,8 @@
 mod chain;
 mod computing;
 mod faults;
+#[cfg(test)]
+mod tests;
 mod values;
 mod writing;
 

@@ -146,7 +146,13 @@ fn received(
     ensures grown { HasGrown places.old places.new }
 {
     let view = places.view(storage, place)?;
-    match result_bytes(alloc, view.kind, places.picture(view), view.span.length, number) {
+    match result_bytes(
+        alloc,
+        view.kind,
+        places.picture(view),
+        view.span.length,
+        number,
+    ) {
         Ok(bytes) => Ok(cut_to(view.span, bytes)),
         Err(_) => Err(RunFault::Memory),
     }

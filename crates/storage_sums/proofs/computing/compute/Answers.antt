@@ -1,5 +1,4 @@
 use Rattle.std.proofs.Common.{◌≡◌, ◌∙◌, Bool, subst}
-use Rattle.cobol_syntax.specs.declared.program.Program.{Program}
 use Rattle.data_layout.specs.declared.item.Layout.{Layout}
 use Rattle.exact_arithmetic.specs.Answers.{read_outcome}
 use Rattle.layout_reading.specs.Reading.{read_layout}
@@ -26,10 +25,10 @@ returns-in_err-outcome-clause-err c =
     let outcome : layouts.Layout → Answer meant.Outcome = λ l. meant.by_phrase l store c.args.phrase (meant.computed l store c.args.rounded form c.args.phrase x rest) in
     err_carried (Failed (layout_of c.args.places.now) (λ l. meant.compute l store (read_place c.args.to.now) c.args.rounded x rest c.args.phrase)) c.from_residual-in_err-outcome.result e c.from_residual-in_err-outcome.ensures.1
     (λ program.
-        let l = read_layout program (layout_of c.args.places.now) in
-        let fails : MayMeet (outcome l) e =
-        subst (λ (places : Layout). MayMeet (outcome (read_layout program places)) e) c.in_ok-form.ensures.grown.layout (c.in_err-outcome.ensures.err program) in
-        fails_then _ _ form e (c.in_ok-form.ensures.form store program) (fails_first (outcome l) _ e fails))
+    let l = read_layout program (layout_of c.args.places.now) in
+    let fails : MayMeet (outcome l) e =
+    subst (λ (places : Layout). MayMeet (outcome (read_layout program places)) e) c.in_ok-form.ensures.grown.layout (c.in_err-outcome.ensures.err program) in
+    fails_then _ _ form e (c.in_ok-form.ensures.form store program) (fails_first (outcome l) _ e fails))
 
 pub returns-in_err-is_error-clause-err : goal.returns-in_err-is_error-clause-err
 returns-in_err-is_error-clause-err c =
@@ -43,12 +42,12 @@ returns-in_err-is_error-clause-err c =
     let outcome : layouts.Layout → Answer meant.Outcome = λ l. meant.by_phrase l store c.args.phrase (meant.computed l store c.args.rounded form c.args.phrase x rest) in
     err_carried (Failed (layout_of c.args.places.now) (λ l. meant.compute l store to c.args.rounded x rest c.args.phrase)) c.from_residual-in_err-is_error.result e c.from_residual-in_err-is_error.ensures.1
     (λ program.
-        let l = read_layout program (layout_of c.args.places.now) in
-        let gives : outcome l ≡ Gives o =
-        subst (λ (places : Layout). outcome (read_layout program places) ≡ Gives o) c.in_ok-form.ensures.grown.layout (c.in_ok-outcome.ensures.ok program) in
-        let fails : MayMeet (meant.written l store c.args.phrase to rest o) e =
-        subst (λ (places : Layout). MayMeet (meant.written (read_layout program places) store c.args.phrase to rest o) e) (c.in_ok-outcome.ensures.grown.layout ∙ c.in_ok-form.ensures.grown.layout) (c.in_err-is_error.ensures.err program) in
-        fails_then _ _ form e (c.in_ok-form.ensures.form store program) (fails_then (outcome l) _ o e gives fails))
+    let l = read_layout program (layout_of c.args.places.now) in
+    let gives : outcome l ≡ Gives o =
+    subst (λ (places : Layout). outcome (read_layout program places) ≡ Gives o) c.in_ok-form.ensures.grown.layout (c.in_ok-outcome.ensures.ok program) in
+    let fails : MayMeet (meant.written l store c.args.phrase to rest o) e =
+    subst (λ (places : Layout). MayMeet (meant.written (read_layout program places) store c.args.phrase to rest o) e) (c.in_ok-outcome.ensures.grown.layout ∙ c.in_ok-form.ensures.grown.layout) (c.in_err-is_error.ensures.err program) in
+    fails_then _ _ form e (c.in_ok-form.ensures.form store program) (fails_then (outcome l) _ o e gives fails))
 
 pub returns-clause-ok : goal.returns-clause-ok
 returns-clause-ok c = λ program.

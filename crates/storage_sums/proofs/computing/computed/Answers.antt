@@ -1,14 +1,11 @@
-use Rattle.std.proofs.Common.{◌≡◌, Option, Some, IfOk, IfErr, sym, ◌∙◌, subst}
+use Rattle.std.proofs.Common.{Option, IfOk, IfErr, sym, ◌∙◌, subst}
 use Rattle.std.proofs.lemmas.Result.{IfErr-weaker, IfOk-weaker}
 use Rattle.cobol_syntax.specs.declared.place.Place.{Place}
 use Rattle.exact_arithmetic.specs.Answers.{read_outcome}
 use Rattle.layout_reading.specs.Reading.{read_layout}
 use Rattle.number_bytes.specs.Held.{read_form}
 use Rattle.place_table.specs.Tables.{layout_of, Gave, Failed}
-use Rattle.program_meaning.specs.Answer.{and_then}
 use Rattle.program_meaning.specs.Arithmetic as meant
-use Rattle.program_meaning.specs.Layout as layouts
-use Rattle.program_meaning.specs.Answer.{Answer}
 use Rattle.storage_places.specs.Held.{held}
 use Rattle.tree_reading.specs.Reading.{read_expr, read_place, place_if}
 use Rattle.storage_sums.proofs.DivisionLaws.{computed_division, computed_simple}
@@ -29,8 +26,8 @@ returns-in-Some-division_of-clause-err c =
     (sym c.in-Some.is)
     (IfErr-weaker c.divided.result _ _
     (λ e fails program. fails_by _ _ e
-        (computed_division (read_layout program (layout_of c.args.places.now)) store c.args.how.rounded form c.args.how.phrase x (read_place c.in-Some.place) (read_expr c.in-Some-division_of.dividend.now) (read_expr c.in-Some-division_of.divisor.now)
-        c.in-Some-division_of.ensures) (fails program)) c.divided.ensures.err)
+    (computed_division (read_layout program (layout_of c.args.places.now)) store c.args.how.rounded form c.args.how.phrase x (read_place c.in-Some.place) (read_expr c.in-Some-division_of.dividend.now) (read_expr c.in-Some-division_of.divisor.now)
+    c.in-Some-division_of.ensures) (fails program)) c.divided.ensures.err)
 
 pub returns-in-None-division_of-clause-ok : goal.returns-in-None-division_of-clause-ok
 returns-in-None-division_of-clause-ok c =

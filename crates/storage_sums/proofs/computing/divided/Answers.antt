@@ -1,5 +1,4 @@
 use Rattle.std.proofs.Common.{◌≡◌, sym, ◌∙◌, subst}
-use Rattle.cobol_syntax.specs.declared.program.Program.{Program}
 use Rattle.data_layout.specs.declared.item.Layout.{Layout}
 use Rattle.exact_arithmetic.specs.Answers.{read_outcome}
 use Rattle.layout_reading.specs.Reading.{read_layout}
@@ -26,10 +25,10 @@ returns-in_err-dividend-clause-err c =
     (λ l. and_then {B = meant.Outcome} (meant.receiver_form l store (read_place c.args.rest.now)) (λ rest_form. meant.division_outcome l store c.args.how.rounded form rest_form c.args.how.phrase x y)))
     c.from_residual-in_err-dividend.result e c.from_residual-in_err-dividend.ensures.1
     (λ program.
-        let l = read_layout program (layout_of c.args.places.now) in
-        let fails : MayMeet (meant.value l store x) e =
-        subst (λ (places : Layout). MayMeet (meant.value (read_layout program places) store x) e) c.in_ok-rest_form.ensures.grown.layout (c.in_err-dividend.ensures.err program) in
-        fails_then _ _ (read_form c.in_ok-rest_form.rest_form) e (c.in_ok-rest_form.ensures.form store program) (fails_first _ _ e fails))
+    let l = read_layout program (layout_of c.args.places.now) in
+    let fails : MayMeet (meant.value l store x) e =
+    subst (λ (places : Layout). MayMeet (meant.value (read_layout program places) store x) e) c.in_ok-rest_form.ensures.grown.layout (c.in_err-dividend.ensures.err program) in
+    fails_then _ _ (read_form c.in_ok-rest_form.rest_form) e (c.in_ok-rest_form.ensures.form store program) (fails_first _ _ e fails))
 
 pub returns-in_err-divisor-clause-err : goal.returns-in_err-divisor-clause-err
 returns-in_err-divisor-clause-err c =
@@ -43,12 +42,12 @@ returns-in_err-divisor-clause-err c =
     (λ l. and_then {B = meant.Outcome} (meant.receiver_form l store (read_place c.args.rest.now)) (λ rest_form. meant.division_outcome l store c.args.how.rounded form rest_form c.args.how.phrase x y)))
     c.from_residual-in_err-divisor.result e c.from_residual-in_err-divisor.ensures.1
     (λ program.
-        let l = read_layout program (layout_of c.args.places.now) in
-        let gives : meant.value l store x ≡ Gives a =
-        subst (λ (places : Layout). meant.value (read_layout program places) store x ≡ Gives a) c.in_ok-rest_form.ensures.grown.layout (c.in_ok-dividend.ensures.ok program) in
-        let fails : MayMeet (meant.value l store y) e =
-        subst (λ (places : Layout). MayMeet (meant.value (read_layout program places) store y) e) (c.in_ok-dividend.ensures.grown.layout ∙ c.in_ok-rest_form.ensures.grown.layout) (c.in_err-divisor.ensures.err program) in
-        fails_then _ _ (read_form c.in_ok-rest_form.rest_form) e (c.in_ok-rest_form.ensures.form store program) (fails_then _ _ a e gives (fails_first _ _ e fails)))
+    let l = read_layout program (layout_of c.args.places.now) in
+    let gives : meant.value l store x ≡ Gives a =
+    subst (λ (places : Layout). meant.value (read_layout program places) store x ≡ Gives a) c.in_ok-rest_form.ensures.grown.layout (c.in_ok-dividend.ensures.ok program) in
+    let fails : MayMeet (meant.value l store y) e =
+    subst (λ (places : Layout). MayMeet (meant.value (read_layout program places) store y) e) (c.in_ok-dividend.ensures.grown.layout ∙ c.in_ok-rest_form.ensures.grown.layout) (c.in_err-divisor.ensures.err program) in
+    fails_then _ _ (read_form c.in_ok-rest_form.rest_form) e (c.in_ok-rest_form.ensures.form store program) (fails_then _ _ a e gives (fails_first _ _ e fails)))
 
 pub returns-in_err-outcome-clause-err : goal.returns-in_err-outcome-clause-err
 returns-in_err-outcome-clause-err c =
@@ -63,13 +62,13 @@ returns-in_err-outcome-clause-err c =
     (λ l. and_then {B = meant.Outcome} (meant.receiver_form l store (read_place c.args.rest.now)) (λ rest_form. meant.division_outcome l store c.args.how.rounded form rest_form c.args.how.phrase x y)))
     c.from_residual-in_err-outcome.result e c.from_residual-in_err-outcome.ensures.1
     (λ program.
-        let l = read_layout program (layout_of c.args.places.now) in
-        let gives_a : meant.value l store x ≡ Gives a =
-        subst (λ (places : Layout). meant.value (read_layout program places) store x ≡ Gives a) c.in_ok-rest_form.ensures.grown.layout (c.in_ok-dividend.ensures.ok program) in
-        let gives_b : meant.value l store y ≡ Gives b =
-        subst (λ (places : Layout). meant.value (read_layout program places) store y ≡ Gives b) (c.in_ok-dividend.ensures.grown.layout ∙ c.in_ok-rest_form.ensures.grown.layout) (c.in_ok-divisor.ensures.ok program) in
-        fails_then _ _ (read_form c.in_ok-rest_form.rest_form) e (c.in_ok-rest_form.ensures.form store program)
-        (fails_then _ _ a e gives_a (fails_then _ _ b e gives_b (meets_by _ _ e (c.division_outcome.ensures l store) c.in_err-outcome.ensures.err))))
+    let l = read_layout program (layout_of c.args.places.now) in
+    let gives_a : meant.value l store x ≡ Gives a =
+    subst (λ (places : Layout). meant.value (read_layout program places) store x ≡ Gives a) c.in_ok-rest_form.ensures.grown.layout (c.in_ok-dividend.ensures.ok program) in
+    let gives_b : meant.value l store y ≡ Gives b =
+    subst (λ (places : Layout). meant.value (read_layout program places) store y ≡ Gives b) (c.in_ok-dividend.ensures.grown.layout ∙ c.in_ok-rest_form.ensures.grown.layout) (c.in_ok-divisor.ensures.ok program) in
+    fails_then _ _ (read_form c.in_ok-rest_form.rest_form) e (c.in_ok-rest_form.ensures.form store program)
+    (fails_then _ _ a e gives_a (fails_then _ _ b e gives_b (meets_by _ _ e (c.division_outcome.ensures l store) c.in_err-outcome.ensures.err))))
 
 pub returns-clause-ok : goal.returns-clause-ok
 returns-clause-ok c = λ program.

@@ -10,7 +10,6 @@ use Rattle.program_meaning.specs.Storage.{Storage}
 use Rattle.storage_places.specs.declared.fault.RunFault.{RunFault}
 use Rattle.storage_places.specs.Held.{held}
 use Rattle.tree_reading.specs.Reading.{read_expr, place_if}
-use Rattle.storage_sums.specs.Faults.{phrased}
 use Rattle.storage_sums.proofs.DivisionLaws.{AreOutcome, phrased_outcome, outcome_by, outcome_gave, outcome_failed}
 use Rattle.storage_sums.proofs.computing.outcome.Goals as goal
 

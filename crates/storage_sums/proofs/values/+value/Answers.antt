@@ -1,6 +1,5 @@
 use Rattle.std.proofs.Common.{◌≡◌, ◌<◌, ℕ, rules, ap, sym, ◌∙◌, subst}
 use Rattle.cobol_syntax.specs.declared.expr.Expr.{size-Expr}
-use Rattle.cobol_syntax.specs.declared.program.Program.{Program}
 use Rattle.data_layout.specs.declared.item.Layout.{Layout}
 use Rattle.layout_reading.specs.Reading.{read_layout}
 use Rattle.number_bytes.specs.Held.{read_scaled}
@@ -13,7 +12,6 @@ use Rattle.storage_places.specs.Held.{held}
 use Rattle.storage_places.specs.Meets.{MayMeet}
 use Rattle.tree_reading.specs.Reading.{read_expr, read_operand}
 use Rattle.storage_sums.specs.declared.chain.Term.{Term}
-use Rattle.storage_sums.specs.declared.chain.Term.TheVariants as term
 use Rattle.storage_sums.specs.Chains.{operated, all_operated, size-Term}
 use Rattle.storage_sums.proofs.ChainLaws.{below_popped, value_whole, value_popped, fails_through}
 use Rattle.storage_sums.proofs.FailLaws.{fails_first, fails_then, fails_by, meets_by, err_carried}
@@ -99,9 +97,9 @@ value-returns-in_err-number-in-Ok-clause-err t c =
     let ts = c.in-Ok.chain.terms.items in
     err_carried (Failed (layout_of c.args.places.now) (λ l. meant.value l store (read_expr c.args.expr.now))) c.from_residual.result e c.from_residual.ensures.1
     (λ program.
-        let l = read_layout program (layout_of c.args.places.now) in
-        fails_by _ _ e (value_whole l store ts (read_operand c.in-Ok.chain.first.now) (read_expr c.args.expr.now) c.in-Ok.ensures.chain)
-        (fails_through l store ts _ e (c.in_err-number-in-Ok.ensures.err program)))
+    let l = read_layout program (layout_of c.args.places.now) in
+    fails_by _ _ e (value_whole l store ts (read_operand c.in-Ok.chain.first.now) (read_expr c.args.expr.now) c.in-Ok.ensures.chain)
+    (fails_through l store ts _ e (c.in_err-number-in-Ok.ensures.err program)))
 
 pub value-loop-term-init : goal.value-loop-term-init
 value-loop-term-init t c = (
@@ -111,7 +109,7 @@ value-loop-term-init t c = (
       let l = read_layout program (layout_of c.args.places.now) in
       let store : Storage = held c.args.storage.now in
       let ts = c.in-Ok.chain.terms.items in
-      value_whole l store ts (read_operand c.in-Ok.chain.first.now) (read_expr c.args.expr.now) c.in-Ok.ensures.chain ∙ ap (all_operated l store ts) (c.in_ok-number-in-Ok.ensures.ok program)
+      value_whole l store ts (read_operand c.in-Ok.chain.first.now) (read_expr c.args.expr.now) c.in-Ok.ensures.chain ∙ ap (all_operated l store ts) (c.in_ok-number-in-Ok.ensures.ok program),
 )
 
 pub value-operated-requires : goal.value-operated-requires
@@ -127,11 +125,11 @@ value-returns-in_err-number-in-Ok-2-clause-err t c =
     let first : Answer meant.Scaled = Gives (read_scaled c.loop-term.number) in
     err_carried (Failed (layout_of c.args.places.now) (λ l. meant.value l store (read_expr c.args.expr.now))) c.from_residual-in_err-number-in-Ok-2.result e c.from_residual-in_err-number-in-Ok-2.ensures.1
     (λ program.
-        let l = read_layout program (layout_of c.args.places.now) in
-        let fails : MayMeet (operated l store c.in-Some.term first) e =
-        subst (λ (places : Layout). MayMeet (operated (read_layout program places) store c.in-Some.term first) e) c.loop-term.invariant.1.layout (c.in_err-number-in-Ok-2.ensures.err program) in
-        fails_by _ _ e (value_popped l store c.loop-term.terms.items c.pop.new.self.items c.in-Some.term first (meant.value l store (read_expr c.args.expr.now)) c.in-Some.ensures.items (c.loop-term.invariant.2 program))
-        (fails_through l store c.pop.new.self.items _ e fails))
+    let l = read_layout program (layout_of c.args.places.now) in
+    let fails : MayMeet (operated l store c.in-Some.term first) e =
+    subst (λ (places : Layout). MayMeet (operated (read_layout program places) store c.in-Some.term first) e) c.loop-term.invariant.1.layout (c.in_err-number-in-Ok-2.ensures.err program) in
+    fails_by _ _ e (value_popped l store c.loop-term.terms.items c.pop.new.self.items c.in-Some.term first (meant.value l store (read_expr c.args.expr.now)) c.in-Some.ensures.items (c.loop-term.invariant.2 program))
+    (fails_through l store c.pop.new.self.items _ e fails))
 
 pub value-loop-term-preserved : goal.value-loop-term-preserved
 value-loop-term-preserved t c = (
@@ -144,5 +142,5 @@ value-loop-term-preserved t c = (
       let second : Answer meant.Scaled = Gives (read_scaled c.in_ok-number-in-Ok-2.number) in
       let gives : operated l store c.in-Some.term first ≡ second =
       subst (λ (places : Layout). operated (read_layout program places) store c.in-Some.term first ≡ second) c.loop-term.invariant.1.layout (c.in_ok-number-in-Ok-2.ensures.ok program) in
-      value_popped l store c.loop-term.terms.items c.pop.new.self.items c.in-Some.term first (meant.value l store (read_expr c.args.expr.now)) c.in-Some.ensures.items (c.loop-term.invariant.2 program) ∙ ap (all_operated l store c.pop.new.self.items) gives
+      value_popped l store c.loop-term.terms.items c.pop.new.self.items c.in-Some.term first (meant.value l store (read_expr c.args.expr.now)) c.in-Some.ensures.items (c.loop-term.invariant.2 program) ∙ ap (all_operated l store c.pop.new.self.items) gives,
 )

@@ -27,4 +27,4 @@ invariant-value-loop-term l =
     AllByRecursion (IsBelow (size-Expr l.fn.expr)) l.terms.items
     × HasGrown l.fn.places l.places
     × ((program : Program) → meant.value (read_layout program (layout_of l.fn.places)) (held l.storage) (read_expr l.fn.expr)
-        ≡ all_operated (read_layout program (layout_of l.fn.places)) (held l.storage) l.terms.items (Gives (read_scaled l.number)))
+    ≡ all_operated (read_layout program (layout_of l.fn.places)) (held l.storage) l.terms.items (Gives (read_scaled l.number)))

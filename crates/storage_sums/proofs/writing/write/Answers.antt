@@ -1,7 +1,6 @@
 use Rattle.std.specs.Int.{w128}
-use Rattle.std.proofs.Common.{◌≡◌, ◌&&◌, Bool, ℤ, Option, Some, SFits, cond, to_z, of_z, rules, refl, ap, sym, ◌∙◌, subst}
+use Rattle.std.proofs.Common.{◌≡◌, ◌&&◌, Bool, ℤ, Some, SFits, cond, to_z, of_z, rules, refl, ap, sym, ◌∙◌, subst}
 use Rattle.std.proofs.lemmas.Int.{to_z-of_z}
-use Rattle.cobol_syntax.specs.declared.program.Program.{Program}
 use Rattle.data_layout.specs.declared.item.Layout.{Layout}
 use Rattle.exact_arithmetic.specs.Answers.{read_outcome}
 use Rattle.layout_reading.specs.Reading.{read_layout}
@@ -27,10 +26,10 @@ returns-in_err-receiver-clause-err c =
     let fits : SFits w128 n = search rules in
     err_carried (Failed (layout_of c.args.places.now) (λ l. meant.written l store c.args.phrase to (place_if c.args.rest.now) (read_outcome c.args.outcome))) c.from_residual.result e c.from_residual.ensures.1
     (λ program.
-        let l = read_layout program (layout_of c.args.places.now) in
-        let fails : MayMeet (meant.written_rest l store (Some to) n store) e =
-        subst (λ (z : ℤ). MayMeet (meant.written_rest l store (Some to) z store) e) (to_z-of_z w128 n fits) (c.in_err-receiver.ensures.err store program) in
-        subst (λ (a : Answer (Bool × Storage)). MayMeet a e) (sym (written_as l store c.args.phrase to (place_if c.args.rest.now) (read_outcome c.args.outcome))) (fails_first _ _ e fails))
+    let l = read_layout program (layout_of c.args.places.now) in
+    let fails : MayMeet (meant.written_rest l store (Some to) n store) e =
+    subst (λ (z : ℤ). MayMeet (meant.written_rest l store (Some to) z store) e) (to_z-of_z w128 n fits) (c.in_err-receiver.ensures.err store program) in
+    subst (λ (a : Answer (Bool × Storage)). MayMeet a e) (sym (written_as l store c.args.phrase to (place_if c.args.rest.now) (read_outcome c.args.outcome))) (fails_first _ _ e fails))
 
 pub returns-in_err-rest-clause-err : goal.returns-in_err-rest-clause-err
 returns-in_err-rest-clause-err c =
@@ -45,13 +44,13 @@ returns-in_err-rest-clause-err c =
     let after : Storage = stored_in (first c.args.storage.now) store c.in_ok-receiver.receiver in
     err_carried (Failed (layout_of c.args.places.now) (λ l. meant.written l store c.args.phrase to rest (read_outcome c.args.outcome))) c.from_residual-in_err-rest.result e c.from_residual-in_err-rest.ensures.1
     (λ program.
-        let l = read_layout program (layout_of c.args.places.now) in
-        let gives : meant.written_rest l store (Some to) n store ≡ Gives after =
-        subst (λ (z : ℤ). meant.written_rest l store (Some to) z store ≡ Gives after) (to_z-of_z w128 n n_fits) (c.in_ok-receiver.ensures.ok store program) in
-        let fails : MayMeet (meant.written_rest l store rest m after) e =
-        subst (λ (z : ℤ). MayMeet (meant.written_rest l store rest z after) e) (to_z-of_z w128 m m_fits)
-        (subst (λ (places : Layout). MayMeet (meant.written_rest (read_layout program places) store rest (to_z w128 (of_z w128 m)) after) e) c.in_ok-receiver.ensures.grown.layout (c.in_err-rest.ensures.err after program)) in
-        subst (λ (a : Answer (Bool × Storage)). MayMeet a e) (sym (written_as l store c.args.phrase to rest (read_outcome c.args.outcome))) (fails_then _ _ after e gives (fails_first _ _ e fails)))
+    let l = read_layout program (layout_of c.args.places.now) in
+    let gives : meant.written_rest l store (Some to) n store ≡ Gives after =
+    subst (λ (z : ℤ). meant.written_rest l store (Some to) z store ≡ Gives after) (to_z-of_z w128 n n_fits) (c.in_ok-receiver.ensures.ok store program) in
+    let fails : MayMeet (meant.written_rest l store rest m after) e =
+    subst (λ (z : ℤ). MayMeet (meant.written_rest l store rest z after) e) (to_z-of_z w128 m m_fits)
+    (subst (λ (places : Layout). MayMeet (meant.written_rest (read_layout program places) store rest (to_z w128 (of_z w128 m)) after) e) c.in_ok-receiver.ensures.grown.layout (c.in_err-rest.ensures.err after program)) in
+    subst (λ (a : Answer (Bool × Storage)). MayMeet a e) (sym (written_as l store c.args.phrase to rest (read_outcome c.args.outcome))) (fails_then _ _ after e gives (fails_first _ _ e fails)))
 
 pub returns-clause-ok : goal.returns-clause-ok
 returns-clause-ok c = λ program.
