@@ -352,10 +352,7 @@ fn a_remainder_is_that_of_the_quotient_as_it_would_be_stored(rt: HostRuntime) ->
         (b"ZS", b"NM/", b"", b"14001"),
         (b"ZS", b"7~2/", b"", b"0301\x73"),
         (b"ZS", b"7~2/", b"R", b"0401\x73"),
-        (
-            row(b'S', b'P', b"7~2/", b"R"),
-            &[0x30, 0x30, 0x74, 0x00, 0x1d],
-        ),
+        (b"SP", b"7~2/", b"R", &[0x30, 0x30, 0x74, 0x00, 0x1d]),
         (b"DS", b"NM/", b"", b"141000"),
     ];
     for (receivers, expr, modes, bytes) in rows {
