@@ -1,0 +1,5 @@
+pub mod FailLaws
+pub mod GrowLaws
+pub mod ChainLaws
+pub mod WriteLaws
+pub mod DivisionLaws

@@ -1,0 +1,8 @@
+//! Comparisons and conditions over the storage of a running program (ISO 1989:1985, Nucleus: conditional expressions).
+#![tactic(auto)]
+
+mod comparing;
+mod testing;
+
+pub use comparing::compare_items;
+pub use testing::test;
