@@ -1,9 +1,10 @@
-ghost use Rattle.std.specs.Prelude.{◌≡◌, ℕ, IfOk, IfErr};
+ghost use Rattle.std.specs.Prelude.{◌≡◌, IfOk, IfErr};
+ghost use Rattle.std.specs.declared.cmp.Ordering.{Ordering};
 ghost use Rattle.exact_arithmetic.specs.Answers.{fault_of};
 ghost use Rattle.number_bytes.specs.Held.{read_scaled};
 ghost use Rattle.place_table.specs.Tables.{layout_of, IsStorageOf, Gave, Failed};
 ghost use Rattle.place_table.specs.Views.{HasGrown};
-ghost use Rattle.program_meaning.specs.Answer.{Gives, Fails};
+ghost use Rattle.program_meaning.specs.Answer.{Answer, Gives, Fails};
 ghost use Rattle.program_meaning.specs.Compare as meant;
 ghost use Rattle.storage_places.specs.Held.{held};
 ghost use Rattle.storage_places.specs.Meets.{Meets};
@@ -89,7 +90,7 @@ pub(crate) fn ordered(left: Scaled, right: Scaled) -> Result<Ordering, RunFault>
 }
 
 fn run_fault(fault: ArithmeticFault) -> RunFault
-    ensures { Meets (Fails {ℕ} (fault_of fault)) result }
+    ensures { (a : Answer Ordering) → a ≡ Fails (fault_of fault) → Meets a result }
 {
     match fault {
         ArithmeticFault::Wide => RunFault::Wide,

@@ -1,5 +1,6 @@
 ghost use Rattle.std.specs.Prelude.{◌≡◌, IfOk, IfErr, Option, length};
 ghost use Rattle.std.specs.Ordering.{int_cmp};
+ghost use Rattle.y2k_base.specs.declared.picture.Picture.{Picture};
 ghost use Rattle.place_table.specs.Tables.{layout_of, IsStorageOf, Gave, Failed};
 ghost use Rattle.place_table.specs.Views.{HasGrown};
 ghost use Rattle.program_meaning.specs.Compare as meant;

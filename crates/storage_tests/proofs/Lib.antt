@@ -1,0 +1,4 @@
+pub mod CompareLaws
+pub mod Faults
+pub mod SeenLaws
+pub mod TreeLaws
