@@ -23,6 +23,9 @@ fails-then {A} {B} a f x e gives h = subst (λ (z : Answer A). MayMeet (and_then
 pub same-fault : {A : Type 0} (a b : Answer A) (e : RunFault) → a ≡ b → MayMeet b e → MayMeet a e
 same-fault {A} a b e same h = subst (λ (z : Answer A). MayMeet z e) (sym same) h
 
+pub same-meets : {A : Type 0} (a b : Answer A) (e : RunFault) → a ≡ b → Meets b e → Meets a e
+same-meets {A} a b e same h = subst (λ (z : Answer A). Meets z e) (sym same) h
+
 pub meets-may : {A : Type 0} (a : Answer A) (e : RunFault) → Meets a e → MayMeet a e
 meets-may a fault.Data h = h
 meets-may a fault.Range h = h

@@ -38,15 +38,15 @@ decides o.Or b = b
 abbrev pub AreLess : ℕ → List Joint → Type 0
 AreLess size = AllByRecursion (λ j. size-Condition j.right.now < size)
 
-module _ (layout : Layout) (store : Storage) where
-  -- the second condition is read only where the first doesn't decide
-  abbrev pub decided : Operator → Bool → Answer Bool → Answer Bool
-  decided o.And = and_also
-  decided o.Or = or_else
+-- what follows a first condition, by whether that holds. The second is read only where the first doesn't decide
+abbrev pub decided : Operator → Bool → Answer Bool → Answer Bool
+decided o.And = and_also
+decided o.Or = or_else
 
-  -- what follows a first condition, by whether that holds
+module _ (layout : Layout) (store : Storage) where
   abbrev pub after_one : Joint → Bool → Answer Bool
   after_one j b = decided j.operator b (test layout store (read_condition j.right.now))
 
+  -- what follows by all that stands behind it
   abbrev pub after : List Joint → Answer Bool → Answer Bool
   after = fold (λ rest j. λ a. rest (and_then a (after_one j))) (λ a. a)
