@@ -1,7 +1,9 @@
 -- Conditions with AND and OR behind a first condition.
-use Rattle.std.proofs.Common.{◌≡◌, Bool, true, false, List, [], ◌∷◌, ◌++◌, refl, ap, ◌∙◌}
+use Rattle.std.proofs.Common.{◌≡◌, ℕ, ◌<◌, Bool, true, false, List, [], ◌∷◌, ◌++◌, refl, ap, ◌∙◌}
 use Rattle.std.specs.List.{fold}
 use Rattle.std.proofs.lemmas.List.Sums.{fold-append}
+use Rattle.y2k_base.proofs.Each.{each-rest}
+use Rattle.cobol_syntax.specs.declared.cond.Condition.{size-Condition}
 use Rattle.program_meaning.specs.Answer.{Answer, Gives, and_then}
 use Rattle.program_meaning.specs.Compare.{test}
 use Rattle.program_meaning.specs.Layout.{Layout}
@@ -13,17 +15,13 @@ use Rattle.storage_places.specs.Meets.{MayMeet}
 use Rattle.storage_tests.specs.declared.joint.Joint.{Joint}
 use Rattle.storage_tests.specs.declared.joint.Operator.{Operator}
 use Rattle.storage_tests.specs.declared.joint.Operator.TheVariants as o
-use Rattle.storage_tests.specs.Joints.{operated, junction, joined, decides, decided, after_one, after}
+use Rattle.storage_tests.specs.Joints.{AreLess, operated, junction, joined, decides, decided, after_one, after}
 use Rattle.storage_tests.proofs.Faults.{fails-first}
 
--- where the first condition decides, it stands as it is
-pub stays : (op : Operator) (b : Bool) (a : Answer Bool) → decides op b ≡ true → decided op b a ≡ Gives b
-stays o.And false a h = refl
-stays o.And true a h = absurd (let none : ⊥ = cc in none)
-stays o.Or true a h = refl
-stays o.Or false a h = absurd (let none : ⊥ = cc in none)
+pub last-less : (size : ℕ) (js : List Joint) (j : Joint) → AreLess size (js ++ j ∷ []) → size-Condition j.right.now < size
+last-less size js j less = (each-rest (λ (i : Joint). size-Condition i.right.now < size) js (j ∷ []) less).0
 
--- else the second one does
+-- where the first condition doesn't decide, the second one does
 pub goes-on : (op : Operator) (b : Bool) (a : Answer Bool) → decides op b ≡ false → decided op b a ≡ a
 goes-on o.And true a h = refl
 goes-on o.And false a h = absurd (let none : ⊥ = cc in none)

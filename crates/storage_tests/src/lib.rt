@@ -12,3 +12,6 @@ mod testing;
 
 pub use comparing::compare_items;
 pub use testing::test;
+
+#[cfg(test)]
+mod tests;
