@@ -4,7 +4,7 @@ use Rattle.std.specs.List.{fold}
 use Rattle.std.proofs.lemmas.List.Sums.{fold-append}
 use Rattle.y2k_base.proofs.Each.{each-rest}
 use Rattle.cobol_syntax.specs.declared.cond.Condition.{size-Condition}
-use Rattle.program_meaning.specs.Answer.{Answer, Gives, and_then}
+use Rattle.program_meaning.specs.Answer.{Answer, and_then}
 use Rattle.program_meaning.specs.Compare.{test}
 use Rattle.program_meaning.specs.Layout.{Layout}
 use Rattle.program_meaning.specs.Storage.{Storage}

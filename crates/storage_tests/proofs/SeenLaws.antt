@@ -1,11 +1,11 @@
 -- Places that are seen in a storage.
-use Rattle.std.proofs.Common.{◌≡◌, ℕ, List, [], ◌∷◌, Option, Some, None, refl, sym, ap, ap₂, subst, ◌∙◌}
+use Rattle.std.proofs.Common.{◌≡◌, ℕ, List, Option, refl, sym, subst}
 use Rattle.y2k_base.specs.declared.place.Span.{Span}
 use Rattle.y2k_base.specs.declared.picture.Picture.{Picture}
 use Rattle.data_layout.specs.declared.item.Layout.{Layout}
 use Rattle.operand_kinds.specs.declared.kind.Kind as operand
 use Rattle.operand_kinds.specs.declared.kind.Kind.TheVariants as kinds
-use Rattle.layout_reading.specs.Reading.{first_area, read_span}
+use Rattle.layout_reading.specs.Reading.{first_area}
 use Rattle.program_meaning.specs.Answer.{Answer, Gives, Fails, and_then}
 use Rattle.storage_places.specs.declared.storage.Storage.{Storage}
 use Rattle.storage_places.specs.Fits.{KindFits, area_lengths}

@@ -1,9 +1,9 @@
 -- AND and OR behind a first condition.
-use Rattle.std.specs.Prelude.{ℕ, ◌<◌, Bool, not, List, [], ◌∷◌}
+use Rattle.std.specs.Prelude.{ℕ, ◌<◌, Bool, not, List}
 use Rattle.std.specs.List.{fold, AllByRecursion}
-use Rattle.cobol_syntax.specs.declared.cond.Condition.{Condition, size-Condition}
+use Rattle.cobol_syntax.specs.declared.cond.Condition.{size-Condition}
 use Rattle.cobol_syntax.specs.declared.cond.CondForm.{CondForm, fold-CondForm}
-use Rattle.program_meaning.specs.Answer.{Answer, Gives, and_then}
+use Rattle.program_meaning.specs.Answer.{Answer, and_then}
 use Rattle.program_meaning.specs.Compare.{and_also, or_else, test}
 use Rattle.program_meaning.specs.Layout.{Layout}
 use Rattle.program_meaning.specs.Storage.{Storage}

@@ -1,5 +1,5 @@
 -- Where a place is, by what the code holds of it.
-use Rattle.std.specs.Prelude.{◌≡◌, ℕ, List, map, Option, None}
+use Rattle.std.specs.Prelude.{ℕ, List, Option, None}
 use Rattle.y2k_base.specs.declared.picture.Picture.{Picture}
 use Rattle.data_layout.specs.declared.item.Layout.{Layout}
 use Rattle.operand_kinds.specs.declared.kind.Kind as operand

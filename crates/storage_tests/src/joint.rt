@@ -7,7 +7,7 @@ use cobol_syntax::{CondForm, Condition};
 use std::alloc::Global;
 use y2k_base::Memory;
 
-#[derive(Clone, Copy, Debug, PartialEq, Eq)]
+#[derive(Clone, Copy)]
 pub(crate) enum Operator {
     And,
     Or,

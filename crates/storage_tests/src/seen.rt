@@ -55,7 +55,11 @@ pub(crate) fn number_at(storage: &Storage, view: View) -> Result<Scaled, RunFaul
         Kind::Group => Err(RunFault::Data),
         Kind::Text => Err(RunFault::Data),
         Kind::Edited { form: _ } => Err(RunFault::Data),
-        Kind::Number { usage, form } => match read_number(bytes_of(storage, view.span), usage, form) {
+        Kind::Number { usage, form } => match read_number(
+            bytes_of(storage, view.span),
+            usage,
+            form,
+        ) {
             Ok(number) => Ok(number),
             Err(_) => Err(RunFault::Data),
         },

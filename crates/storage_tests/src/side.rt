@@ -13,7 +13,7 @@ use place_table::Places;
 use storage_places::RunFault;
 
 /// What a side of a relation is: a number, bytes, or a figurative constant, by the byte that it repeats.
-#[derive(Clone, Copy, Debug, PartialEq, Eq)]
+#[derive(Clone, Copy)]
 pub(crate) enum Side {
     Number,
     Bytes,

@@ -6,9 +6,7 @@ ghost use Rattle.storage_places.specs.Fits.{area_lengths};
 ghost use Rattle.storage_places.specs.Held.{held, first, lengths};
 
 use super::*;
-use cobol_syntax::{
-    CondForm, Condition, Entry, Expr, Operand, Place, Program, Range, Rel, Usage,
-};
+use cobol_syntax::{CondForm, Condition, Entry, Expr, Operand, Place, Program, Range, Rel, Usage};
 use data_layout::{Layout, LayoutFault, lay_out};
 use decimal_bytes::{Scaled, SignPlace};
 use picture::read_picture;
@@ -31,6 +29,7 @@ enum Given<'a> {
 }
 
 const ZERO: Given<'static> = Given::Figure(b'0');
+
 const SPACES: Given<'static> = Given::Figure(b' ');
 
 fn bytes_of(alloc: Global, text: &[u8]) -> Result<Bytes, Memory> {
@@ -287,7 +286,12 @@ fn both(alloc: Global, and: bool, first: CondForm, second: CondForm) -> Result<C
 /// A relation that holds, one that doesn't, or one that meets bytes without a number.
 fn part(alloc: Global, kind: u8) -> Result<CondForm, Memory> {
     match kind {
-        b't' => Ok(relation(alloc, Given::Item(b'N'), Rel::Equal, Given::Number(42, 0, 2))?),
+        b't' => Ok(relation(
+            alloc,
+            Given::Item(b'N'),
+            Rel::Equal,
+            Given::Number(42, 0, 2),
+        )?),
         b'f' => Ok(relation(alloc, Given::Item(b'N'), Rel::Less, Given::Number(42, 0, 2))?),
         _ => Ok(relation(alloc, Given::Item(b'Q'), Rel::Greater, ZERO)?),
     }
@@ -300,7 +304,11 @@ fn numbers_are_compared_by_value(rt: HostRuntime) -> Result<(), Fail> {
         (Given::Item(b'N'), Given::Item(b'S'), Ok(Ordering::Equal)),
         (Given::Item(b'N'), Given::Item(b'P'), Ok(Ordering::Greater)),
         (Given::Item(b'P'), Given::Item(b'B'), Ok(Ordering::Less)),
-        (Given::Item(b'B'), Given::Number(420, 1, 3), Ok(Ordering::Equal)),
+        (
+            Given::Item(b'B'),
+            Given::Number(420, 1, 3),
+            Ok(Ordering::Equal),
+        ),
         (Given::Item(b'N'), ZERO, Ok(Ordering::Greater)),
         (ZERO, Given::Item(b'P'), Ok(Ordering::Greater)),
         (Given::Item(b'Q'), Given::Item(b'N'), Err(RunFault::Data)),
@@ -322,8 +330,16 @@ fn all_else_is_compared_by_bytes(rt: HostRuntime) -> Result<(), Fail> {
         (Given::Item(b'G'), Given::Item(b'N'), Ok(Ordering::Less)),
         (Given::Item(b'X'), Given::Item(b'T'), Ok(Ordering::Equal)),
         (Given::Item(b'T'), Given::Text(b"42A"), Ok(Ordering::Less)),
-        (Given::Item(b'T'), Given::Number(42, 0, 2), Ok(Ordering::Equal)),
-        (Given::Number(42, 0, 3), Given::Item(b'T'), Ok(Ordering::Less)),
+        (
+            Given::Item(b'T'),
+            Given::Number(42, 0, 2),
+            Ok(Ordering::Equal),
+        ),
+        (
+            Given::Number(42, 0, 3),
+            Given::Item(b'T'),
+            Ok(Ordering::Less),
+        ),
         (Given::Item(b'Q'), Given::Item(b'T'), Ok(Ordering::Less)),
     ];
     for (left, right, order) in rows {

@@ -1,4 +1,4 @@
-use Rattle.std.proofs.Common.{◌≡◌, Bool, true, false, Err, sym, ◌∙◌, rules}
+use Rattle.std.proofs.Common.{◌≡◌, true, false, Err, sym, ◌∙◌, rules}
 use Rattle.program_meaning.specs.Compare.{side, compare_numbers, compare_bytes}
 use Rattle.program_meaning.specs.Layout.{Layout}
 use Rattle.program_meaning.specs.Storage.{Storage}

@@ -1,4 +1,4 @@
-use Rattle.std.proofs.Common.{◌≡◌, ap, sym, ◌∙◌, Result, Ordering}
+use Rattle.std.proofs.Common.{ap, sym, ◌∙◌, Result, Ordering}
 use Rattle.exact_arithmetic.specs.declared.fault.ArithmeticFault.{ArithmeticFault}
 use Rattle.exact_arithmetic.specs.Answers.{order_answer}
 use Rattle.program_meaning.specs.Compare as meant

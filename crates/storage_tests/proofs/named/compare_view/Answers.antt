@@ -1,4 +1,4 @@
-use Rattle.std.proofs.Common.{◌≡◌, List, ℕ, Bool, true, false, None, Err, sym, ap, ◌∙◌, rules}
+use Rattle.std.proofs.Common.{◌≡◌, List, ℕ, true, false, None, Err, sym, ap, ◌∙◌, rules}
 use Rattle.std.specs.declared.cmp.Ordering.{Ordering}
 use Rattle.layout_reading.specs.Reading.{read_layout}
 use Rattle.program_meaning.specs.Answer.{Answer, Gives, and_then}

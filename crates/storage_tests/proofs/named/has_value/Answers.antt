@@ -1,6 +1,6 @@
-use Rattle.std.proofs.Common.{◌≡◌, Err, map, rules}
+use Rattle.std.proofs.Common.{◌≡◌, Err, rules}
 use Rattle.layout_reading.specs.Reading.{read_layout}
-use Rattle.program_meaning.specs.Compare.{is_value, has_value}
+use Rattle.program_meaning.specs.Compare.{is_value}
 use Rattle.program_meaning.specs.Layout.{Layout}
 use Rattle.place_table.specs.Tables.{layout_of}
 use Rattle.storage_places.specs.Held.{held}
