@@ -12,7 +12,7 @@ use data_layout::Layout;
 use date_views::{Field, Side, side_of};
 use decimal_bytes::NumForm;
 use operand_kinds::Kind;
-use statement_rules::operand_side;
+use statement_rules::{is_name, operand_side};
 use std::alloc::Global;
 use y2k_base::{BytePlace, Memory, Span};
 use year_labels::{Label, Labelling, View};
@@ -66,30 +66,11 @@ fn bears(labelling: &Labelling, place: BytePlace, label: Label) -> bool
     labelling.has(place, label)
 }
 
-fn label_at(kind: YearKind, index: u8) -> Label
-    ensures { result ≡ pairs.label_at kind index }
-{
-    match kind {
-        YearKind::Pair => {
-            if index == 0 {
-                Label::Tens
-            } else {
-                Label::Units
-            }
-        }
-        YearKind::Packed { digits, unit } => Label::Packed {
-            digits,
-            unit,
-            byte: index,
-        },
-    }
-}
-
 fn bears_its_label(labelling: &Labelling, year: Year, index: u8) -> Result<bool, Memory>
     ensures { IfOk result (λ is. is ≡ spec.bears labelling.now (pairs.place_after year.place index) (pairs.label_at year.kind index)) }
 {
     let place = place_behind(year.place, u32::from(index))?;
-    let is = bears(labelling, place, label_at(year.kind, index));
+    let is = bears(labelling, place, year.kind.label_at(index));
     Ok(is)
 }
 
@@ -245,15 +226,6 @@ fn is_sender(kind: Kind) -> bool
         Kind::Text => false,
         Kind::Edited { form: _ } => false,
         Kind::Number { usage, form } => is_sending(usage, form),
-    }
-}
-
-fn is_name(sub: &Sub) -> bool
-    ensures { result ≡ names.is_name sub.now }
-{
-    match sub {
-        Sub::Number { value: _, at: _ } => false,
-        Sub::Name(_) => true,
     }
 }
 

@@ -140,10 +140,7 @@ fn value_of(alloc: Global, operator: u8, left: u8, right: u8) -> Result<Expr, Me
 /// store in the first what they make of the others.
 fn form_of(alloc: Global, text: &[u8]) -> Result<Form, Memory> {
     match text {
-        [b'M', from, to] => Ok(Form::Move {
-            from: operand_of(alloc, *from)?,
-            to: place_of(alloc, &[*to])?,
-        }),
+        [b'M', from, to] => Ok(move_of(alloc, *from, *to)?),
         [b'I', left, right, from, to] => Ok(Form::If {
             test: equal(alloc, *left, *right)?,
             yes: statements_of(alloc, move_of(alloc, *from, *to)?)?,

@@ -117,7 +117,8 @@ fn add_bound(
     }
 }
 
-fn is_name(bound: &Sub) -> bool
+/// Whether a subscript, or a bound of a reference, is a data name.
+pub fn is_name(bound: &Sub) -> bool
     ensures { result ≡ spec.is_name bound.now }
 {
     match bound {

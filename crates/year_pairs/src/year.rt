@@ -38,7 +38,7 @@ impl YearKind {
     }
 
     /// The label of the byte of that index.
-    pub(crate) fn label_at(self, index: u8) -> Label
+    pub fn label_at(self, index: u8) -> Label
         ensures { result ≡ label_at self index }
     {
         match self {

@@ -1,4 +1,4 @@
-use Rattle.std.proofs.Common.{rules, arith, subst, take, All, List}
+use Rattle.std.proofs.Common.{rules, arith, subst, All, List}
 use Rattle.std.proofs.lemmas.List.{take_all}
 use Rattle.std.proofs.lemmas.List.Elements.{All-more}
 use Rattle.year_labels.specs.declared.rule.RuleForm.{RuleForm}
