@@ -1,0 +1,7 @@
+pub mod CutPlaces
+pub mod Sums
+pub mod Grown
+pub mod Parting
+pub mod MarkLaws
+pub mod Filling
+pub mod Fitting

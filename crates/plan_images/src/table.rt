@@ -1,4 +1,4 @@
-ghost use Rattle.std.specs.Prelude.{◌≡◌, ◌+◌, ◌-◌, ◌<◌, ◌≤◌, ℕ, IfOk, IfNone, IfSome, IsTrue, MatchOption, Contains, length, slice_index_or, take};
+ghost use Rattle.std.specs.Prelude.{◌≡◌, ◌+◌, ◌-◌, ◌<◌, ◌≤◌, ℕ, IfOk, IfNone, IfSome, IsTrue, ◌↔◌, MatchOption, Contains, length, slice_index_or, take};
 ghost use Rattle.year_image.specs.Piece.{width, grown_size};
 ghost use Rattle.year_image.specs.Offset.{image_offset};
 ghost use Rattle.file_convert.specs.declared.cut.Cut.{Cut as AnyCut};
