@@ -1,4 +1,4 @@
-use Rattle.std.proofs.Common.{◌≡◌, ℕ, ◌+◌, sym, ap, ◌∙◌, subst}
+use Rattle.std.proofs.Common.{ℕ, ◌+◌, sym, subst}
 use Rattle.file_convert.specs.Cuts.{pieces}
 use Rattle.plan_images.specs.Edges.{IsEdge}
 use Rattle.plan_images.proofs.Parting.{edge, no_edge}

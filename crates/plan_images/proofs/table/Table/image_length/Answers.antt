@@ -1,4 +1,4 @@
-use Rattle.std.proofs.Common.{◌≡◌, ℕ, ◌+◌, sym, ap, ◌∙◌}
+use Rattle.std.proofs.Common.{ℕ, ◌+◌, ap, ◌∙◌}
 use Rattle.plan_images.proofs.Grown.{length_after}
 use Rattle.plan_images.proofs.table.Table.image_length.Goals as goal
 

@@ -1,4 +1,4 @@
-use Rattle.std.proofs.Common.{◌≡◌, ℕ, ◌+◌, sym, ap, ◌∙◌}
+use Rattle.std.proofs.Common.{ℕ, ◌+◌, ap, ◌∙◌}
 use Rattle.plan_images.proofs.Grown.{offset_after}
 use Rattle.plan_images.proofs.table.Table.offset_after.Goals as goal
 

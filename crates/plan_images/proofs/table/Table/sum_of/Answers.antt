@@ -1,5 +1,5 @@
-use Rattle.std.proofs.Common.{◌≡◌, ℕ, ◌+◌, ◌<◌, ◌≤◌, suc, List, length, take, get_or, sym, ap, ◌∙◌, subst, arith}
-use Rattle.plan_images.specs.Edges.{sums_from, growths}
+use Rattle.std.proofs.Common.{◌≡◌, ℕ, ◌+◌, suc, List, length, take, get_or, ap, ◌∙◌, arith}
+use Rattle.plan_images.specs.Edges.{growths}
 use Rattle.plan_images.proofs.Sums.{length-sums, sums-at, growths_low, count_low}
 use Rattle.plan_images.proofs.table.Table.sum_of.Goals as goal
 

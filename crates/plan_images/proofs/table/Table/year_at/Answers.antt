@@ -1,10 +1,6 @@
-use Rattle.std.proofs.Common.{◌≡◌, ℕ, ◌+◌, ◌≤◌, Contains}
 use Rattle.std.specs.Option.{IfNone}
 use Rattle.std.specs.Prelude.{Option, Some, None}
-use Rattle.year_image.specs.Piece.{width}
 use Rattle.file_convert.specs.declared.cut.Cut.{Cut}
-use Rattle.file_convert.specs.Cuts.{piece_of}
-use Rattle.plan_images.specs.Edges.{Covers, IsLast}
 use Rattle.plan_images.proofs.CutPlaces.{only_last}
 use Rattle.plan_images.proofs.table.Table.year_at.Goals as goal
 
