@@ -1,12 +1,11 @@
 -- Where the cuts of a record stand, one after the other.
-use Rattle.std.proofs.Common.{◌≡◌, ℕ, zero, suc, ◌+◌, ◌-◌, ◌<◌, ◌≤◌, inl, inr, List, [], ◌∷◌, ◌++◌, length, take, drop, Some, None, slice_get, get_or, refl, sym, ap, ◌∙◌, subst, arith, Contains}
+use Rattle.std.proofs.Common.{◌≡◌, ℕ, zero, suc, ◌+◌, ◌<◌, ◌≤◌, inl, inr, List, [], ◌∷◌, length, Some, slice_get, get_or, refl, ap, ◌∙◌, arith, Contains}
 use Rattle.std.specs.List.Sorted.{IsNonDecreasingBy}
 use Rattle.std.proofs.lemmas.Bool.{cases_lt}
-use Rattle.std.proofs.lemmas.Option.{get_or_from_slice_get, slice_get_within, slice_get-get_or}
-use Rattle.year_image.specs.Piece.{Piece, Pair, Packed, Keep, width}
+use Rattle.std.proofs.lemmas.Option.{slice_get-get_or}
+use Rattle.year_image.specs.Piece.{width}
 use Rattle.file_convert.specs.declared.cut.Cut.{Cut}
 use Rattle.file_convert.specs.Cuts.{piece_of, IsInOrderFrom}
-use Rattle.file_convert.proofs.CutLemmas.{order_end}
 use Rattle.plan_images.specs.Edges.{Covers, IsLast}
 
 -- the first `count` cuts are those that begin before that offset

@@ -1,22 +1,17 @@
 -- The tables of areas, filled year by year.
-use Rattle.std.proofs.Common.{◌≡◌, ◌⊎◌, ℕ, zero, suc, ◌+◌, ◌-◌, ◌<◌, ◌≤◌, ◌==◌, Bool, true, false, cond, inl, inr, List, [], ◌∷◌, ◌++◌, length, take, map, get_or, set, refl, sym, ap, ◌∙◌, subst, arith, Contains}
+use Rattle.std.proofs.Common.{◌≡◌, ℕ, zero, suc, ◌+◌, ◌<◌, ◌≤◌, true, false, cond, inl, inr, List, [], ◌∷◌, length, map, get_or, refl, sym, ap, subst, arith, Contains}
 use Rattle.std.specs.Prelude.{filter, All}
 use Rattle.std.specs.List.{AllByRecursion}
-use Rattle.std.proofs.lemmas.Bool.{cases_eq, eqb-true, eq-eqb, ne_eqb}
-use Rattle.std.proofs.lemmas.List.{append-nil, map-append, length-map, length-set, get_or-set_same, get_or-set_other, get_or-map, take_all}
-use Rattle.std.proofs.lemmas.List.Elements.{filter_more, All-contains, All-from_get_or, Contains-append_left, Contains-append_right, Contains-push}
-use Rattle.y2k_base.specs.declared.place.AreaId.{AreaId}
-use Rattle.year_labels.specs.declared.label.Fact.{Fact}
+use Rattle.std.proofs.lemmas.Bool.{eqb-true}
+use Rattle.std.proofs.lemmas.List.Elements.{All-contains, All-from_get_or, Contains-append_left, Contains-append_right, Contains-push}
 use Rattle.year_pairs.specs.declared.year.Year.{Year}
-use Rattle.year_pairs.specs.Years.{width as year_width, AreInOrder, EndsBefore, AreYearsOf}
-use Rattle.year_pairs.specs.Lone.{AreCovered}
+use Rattle.year_pairs.specs.Years.{width as year_width, AreInOrder, EndsBefore}
 use Rattle.window_modes.specs.declared.modes.YearMode.{YearMode}
 use Rattle.year_image.specs.Piece.{width}
 use Rattle.year_image.specs.Marks.{Still, marks}
-use Rattle.file_convert.specs.declared.cut.Cut.{Cut}
 use Rattle.file_convert.specs.declared.cut.Cuts.{Cuts}
 use Rattle.file_convert.specs.Cuts.{piece_of, pieces, IsFitting, IsInOrder, IsInOrderFrom}
-use Rattle.plan_images.specs.Tables.{cut_of, cuts_in, is_in, byte_at, years_of, table_of, empty, no_cuts, cuts_at, with_cut, IsLength, IsPlaced, AreFit, AreTables, IsTableOf, AreImagesOf, AreLabelled}
+use Rattle.plan_images.specs.Tables.{cut_of, cuts_in, is_in, byte_at, years_of, table_of, no_cuts, cuts_at, IsLength, IsPlaced, AreFit, AreTables, AreImagesOf, AreLabelled}
 use Rattle.plan_images.proofs.MarkLaws.{same_width, marked, by_labels}
 
 -- The cuts of an area are in order.

@@ -1,19 +1,19 @@
 -- When areas and years are as images want them: what holds for the first ones, and for one more.
-use Rattle.std.proofs.Common.{◌≡◌, ◌⊎◌, ◌↔◌, ℕ, zero, suc, ◌+◌, ◌-◌, ◌<◌, ◌≤◌, Bool, true, false, IsTrue, inl, inr, List, [], ◌∷◌, ◌++◌, length, take, map, get_or, refl, sym, ap, ◌∙◌, subst, arith}
+use Rattle.std.proofs.Common.{◌≡◌, ◌↔◌, ℕ, zero, suc, ◌-◌, ◌<◌, ◌≤◌, Bool, true, false, IsTrue, inl, inr, List, [], ◌∷◌, length, get_or, refl, sym, ap, ◌∙◌, subst, arith}
 use Rattle.std.specs.Prelude.{All}
 use Rattle.std.specs.List.{AllByRecursion}
-use Rattle.std.proofs.lemmas.Bool.{cases_lt}
+use Rattle.std.proofs.lemmas.List.{get_or_default}
 use Rattle.y2k_base.specs.declared.place.AreaId.{AreaId}
 use Rattle.year_pairs.specs.declared.year.Year.{Year}
-use Rattle.year_pairs.specs.Years.{width, AreInOrder, EndsBefore}
+use Rattle.year_pairs.specs.Years.{AreInOrder, EndsBefore}
 use Rattle.window_modes.specs.declared.modes.YearMode.{YearMode}
 use Rattle.plan_images.specs.Tables.{years_of}
 
 -- one that fails what all are to be
 pub not_all : {X : Type 0} (P : X → Type 0) (xs : List X) (i : ℕ) (d : X) (b : Bool) → i < length xs → (IsTrue b ↔ P (get_or xs i d)) → b ≡ false → IsTrue false ↔ All P xs
-not_all P xs i d b l is no = (
+not_all P xs i d b l is fails = (
   λ e. absurd (let f : false ≡ true = e in cc),
-  λ all. absurd (let f : false ≡ true = sym no ∙ is.1 (all i d l) in cc),
+  λ all. absurd (let f : false ≡ true = sym fails ∙ is.1 (all i d l) in cc),
 )
 
 ends_through : (x y z : Year) → EndsBefore x y → EndsBefore y z → EndsBefore x z
@@ -28,20 +28,18 @@ all_through x y (z ∷ ys) e h = (ends_through x y z e h.0, all_through x y ys e
 
 -- each ends before the next
 abbrev pub AreInRow : List YearMode → ℕ → Type 0
-AreInRow ms count = (i : ℕ) (d : YearMode) → 1 ≤ i → i < count → EndsBefore (get_or ms (i - 1) d).year (get_or ms i d).year
+AreInRow ms count = (i : ℕ) (d : YearMode) → suc i < count → EndsBefore (get_or ms i d).year (get_or ms (suc i) d).year
 
-pub in_order_from_row : (ms : List YearMode) → AreInRow ms (length ms) → AreInOrder (years_of ms)
+in_order_from_row : (ms : List YearMode) → AreInRow ms (length ms) → AreInOrder (years_of ms)
 in_order_from_row [] row = tt
 in_order_from_row (m ∷ []) row = (tt, tt)
 in_order_from_row (m ∷ n ∷ ms) row =
-    let first : EndsBefore m.year n.year = row 1 m (omega arith) (omega arith) in
-    let rest : AreInRow (n ∷ ms) (length (n ∷ ms)) = λ i d low l. row_rest i d low l in
-    let later = in_order_from_row (n ∷ ms) rest in
+    let first : EndsBefore m.year n.year = row 0 m (omega arith) in
+    let later : AreInOrder (years_of (n ∷ ms)) = in_order_from_row (n ∷ ms) (λ i d l. row (suc i) d (omega (arith, l))) in
     ((first, all_through m.year n.year (years_of ms) first later.0), later)
-  where
-    row_rest : AreInRow (n ∷ ms) (length (n ∷ ms))
-    row_rest zero d low l = absurd (omega (arith, low))
-    row_rest (suc i) d low l = row (suc (suc i)) d (omega arith) (omega (arith, l))
+
+pub in_order : (ms : List YearMode) (count : ℕ) → length ms ≤ count → AreInRow ms count → IsTrue true ↔ AreInOrder (years_of ms)
+in_order ms count all row = (λ e. in_order_from_row ms (λ i d l. row i d (omega (arith, l, all))), λ h. refl)
 
 among : (y : Year) (ms : List YearMode) (i : ℕ) (d : YearMode) → AllByRecursion (EndsBefore y) (years_of ms) → i < length ms → EndsBefore y (get_or ms i d).year
 among y [] i d h l = absurd (omega (arith, l))
@@ -49,20 +47,20 @@ among y (m ∷ ms) zero d h l = h.0
 among y (m ∷ ms) (suc i) d h l = among y ms i d h.1 (omega (arith, l))
 
 row_from_order : (ms : List YearMode) → AreInOrder (years_of ms) → AreInRow ms (length ms)
-row_from_order ms h zero d low l = absurd (omega (arith, low))
-row_from_order [] h (suc i) d low l = absurd (omega (arith, l))
-row_from_order (m ∷ ms) h (suc zero) d low l = among m.year ms 0 d h.0 (omega (arith, l))
-row_from_order (m ∷ ms) h (suc (suc i)) d low l = row_from_order ms h.1 (suc i) d (omega arith) (omega (arith, l))
+row_from_order [] h i d l = absurd (omega (arith, l))
+row_from_order (m ∷ ms) h zero d l = among m.year ms 0 d h.0 (omega (arith, l))
+row_from_order (m ∷ ms) h (suc i) d l = row_from_order ms h.1 i d (omega (arith, l))
 
--- two neighbours that are not so
-pub not_in_order : (ms : List YearMode) (i : ℕ) (d : YearMode) (b : Bool) → 1 ≤ i → i < length ms → (IsTrue b ↔ EndsBefore (get_or ms (i - 1) d).year (get_or ms i d).year) → b ≡ false → IsTrue false ↔ AreInOrder (years_of ms)
-not_in_order ms i d b low l is no = (
-  λ e. absurd (let f : false ≡ true = e in cc),
-  λ h. absurd (let f : false ≡ true = sym no ∙ is.1 (row_from_order ms h i d low l) in cc),
-)
-
-pub row_more : (ms : List YearMode) (i : ℕ) → AreInRow ms i → ((d : YearMode) → EndsBefore (get_or ms (i - 1) d).year (get_or ms i d).year) → AreInRow ms (i + 1)
-row_more ms i row here j d low l = elim (cases_lt j i) [
-  | inl before ↦ row j d low before
-  | inr last ↦ let e : j ≡ i = omega arith in subst (λ (n : ℕ). EndsBefore (get_or ms (n - 1) d).year (get_or ms n d).year) (sym e) (here d)
-]
+-- two neighbours of which the first does not
+pub not_in_order : (ms : List YearMode) (i : ℕ) (d e : YearMode) (b : Bool) → 1 ≤ i → i < length ms → (IsTrue b ↔ EndsBefore (get_or ms (i - 1) d).year (get_or ms i e).year) → b ≡ false → IsTrue false ↔ AreInOrder (years_of ms)
+not_in_order ms i d e b low l is fails =
+    let next : suc (i - 1) ≡ i = omega (arith, low) in
+    let same : get_or ms i d ≡ get_or ms i e = get_or_default ms i d e l in
+    (
+      λ f. absurd (let g : false ≡ true = f in cc),
+      λ h.
+          let here : EndsBefore (get_or ms (i - 1) d).year (get_or ms (suc (i - 1)) d).year = row_from_order ms h (i - 1) d (omega (arith, next, l)) in
+          let there : EndsBefore (get_or ms (i - 1) d).year (get_or ms i e).year =
+          subst (λ (m : YearMode). EndsBefore (get_or ms (i - 1) d).year m.year) (ap (λ (n : ℕ). get_or ms n d) next ∙ same) here in
+          absurd (let g : false ≡ true = sym fails ∙ is.1 there in cc),
+    )

@@ -1,5 +1,5 @@
 -- Where a byte stands in the image of a record with cuts.
-use Rattle.std.proofs.Common.{◌≡◌, ℕ, zero, suc, ◌+◌, ◌-◌, ◌<◌, ◌≤◌, cond, inl, inr, List, [], ◌∷◌, ◌++◌, length, take, get_or, refl, sym, ap, ◌∙◌, subst, arith}
+use Rattle.std.proofs.Common.{◌≡◌, ℕ, zero, suc, ◌+◌, ◌-◌, ◌<◌, ◌≤◌, cond, inl, inr, List, [], ◌∷◌, ◌++◌, length, take, refl, ap, ◌∙◌, arith}
 use Rattle.std.specs.Prelude.{replicate}
 use Rattle.std.proofs.lemmas.Bool.{cases_lt, lt-leb}
 use Rattle.std.proofs.lemmas.List.{take_all}
@@ -11,7 +11,7 @@ use Rattle.file_convert.specs.declared.cut.Cut.{Cut}
 use Rattle.file_convert.specs.declared.cut.Cuts.{Cuts}
 use Rattle.file_convert.specs.Cuts.{piece_of, pieces, pieces_from, IsInOrder, IsInOrderFrom}
 use Rattle.file_convert.proofs.CutLemmas.{grown_width-ge, grown_size-pieces}
-use Rattle.plan_images.specs.Edges.{growth, growths}
+use Rattle.plan_images.specs.Edges.{growths}
 use Rattle.plan_images.proofs.CutPlaces.{AreBegun, begun_rest, none_begun}
 use Rattle.plan_images.proofs.Sums.{same_growths}
 

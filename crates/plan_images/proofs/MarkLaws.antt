@@ -1,10 +1,9 @@
 -- The marks of the pieces of an area are those that the years, and the labels, say.
-use Rattle.std.proofs.Common.{◌≡◌, ◌⊎◌, ℕ, zero, suc, ◌+◌, ◌-◌, ◌/◌, ◌<◌, ◌≤◌, ◌==◌, Bool, true, false, cond, inl, inr, List, [], ◌∷◌, ◌++◌, length, map, Option, Some, None, get_or, refl, sym, ap, ◌∙◌, subst, arith, Contains}
-use Rattle.std.specs.Prelude.{replicate, filter, slice_index_or}
+use Rattle.std.proofs.Common.{◌≡◌, ◌⊎◌, ℕ, zero, suc, ◌+◌, ◌-◌, ◌/◌, ◌<◌, ◌≤◌, Bool, true, false, cond, inl, inr, List, [], ◌∷◌, ◌++◌, length, map, Option, get_or, refl, sym, ap, ◌∙◌, subst, arith, Contains}
+use Rattle.std.specs.Prelude.{replicate, filter}
 use Rattle.std.proofs.lemmas.Bool.{cases_lt, eqb-true, eq-eqb}
-use Rattle.std.proofs.lemmas.List.{get_or-append_right, get_or_append_left, get_or-append-add}
+use Rattle.std.proofs.lemmas.List.{get_or_append_left, get_or-append-add}
 use Rattle.std.proofs.lemmas.List.Elements.{Contains-append_left, Contains-append_right, Contains-append_cases, Contains-push}
-use Rattle.y2k_base.specs.declared.place.AreaId.{AreaId}
 use Rattle.y2k_base.specs.declared.place.BytePlace.{BytePlace}
 use Rattle.year_labels.specs.declared.label.Fact.{Fact}
 use Rattle.year_labels.specs.declared.label.Label.{Label}
@@ -13,19 +12,19 @@ use Rattle.year_labels.specs.Facts.{fact_of}
 use Rattle.year_pairs.specs.declared.year.Year.{Year}
 use Rattle.year_pairs.specs.declared.year.YearKind.{YearKind}
 use Rattle.year_pairs.specs.declared.year.YearKind.TheVariants as years
-use Rattle.year_pairs.specs.Years.{width as year_width, label_at, place_after, byte_of, IsYear, AreYearsOf}
+use Rattle.year_pairs.specs.Years.{width as year_width, label_at, place_after, IsYear, AreYearsOf}
 use Rattle.year_pairs.specs.Lone.{AreCovered, IsByteOfYear}
 use Rattle.window_modes.specs.declared.modes.YearMode.{YearMode}
 use Rattle.window_modes.specs.Links.{HasByte}
-use Rattle.year_image.specs.Piece.{Piece, Keep, Pair, Packed, width, size}
-use Rattle.year_image.specs.Marks.{Mark, Still, Tens, Units, Half, halves_from, marks_at, marks}
+use Rattle.year_image.specs.Piece.{Piece, Keep, width, size}
+use Rattle.year_image.specs.Marks.{Mark, Still, Half, halves_from, marks_at, marks}
 use Rattle.year_image.proofs.MarkLemmas.{length-marks, length-marks_at, marks-append}
 use Rattle.year_image.proofs.NumberImages.{size-keep}
 use Rattle.file_convert.specs.declared.cut.Cut.{Cut}
 use Rattle.file_convert.specs.declared.cut.Cuts.{Cuts}
 use Rattle.file_convert.specs.Cuts.{piece_at, piece_of, pieces, pieces_from, IsInOrder, IsInOrderFrom}
 use Rattle.plan_images.specs.Edges.{Covers}
-use Rattle.plan_images.specs.Marks.{mark_of, IsMark, IsMarkIn, IsLabelled}
+use Rattle.plan_images.specs.Marks.{mark_of, IsMark, IsLabelled}
 use Rattle.plan_images.specs.Tables.{kind_of, cut_of, cuts_in, is_in, byte_at, years_of, AreMarksOf}
 use Rattle.plan_images.proofs.CutPlaces.{starts_from}
 

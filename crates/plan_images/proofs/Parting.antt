@@ -1,17 +1,17 @@
 -- Where the pieces of a record with cuts part.
-use Rattle.std.proofs.Common.{◌≡◌, ℕ, zero, suc, ◌+◌, ◌-◌, ◌<◌, ◌≤◌, inl, inr, List, [], ◌∷◌, ◌++◌, length, take, drop, Some, None, slice_get, get_or, refl, sym, ap, ◌∙◌, subst, arith, append_assoc}
+use Rattle.std.proofs.Common.{◌≡◌, ℕ, zero, suc, ◌+◌, ◌-◌, ◌<◌, ◌≤◌, List, [], ◌∷◌, ◌++◌, take, drop, Some, None, slice_get, get_or, refl, sym, ap, ◌∙◌, arith, append_assoc}
 use Rattle.std.specs.Prelude.{replicate}
 use Rattle.std.proofs.lemmas.List.{replicate-append-replicate}
 use Rattle.y2k_base.specs.declared.place.Span.{Span}
 use Rattle.year_image.specs.Piece.{Piece, Keep, width, size, grown_size}
-use Rattle.year_image.proofs.NumberImages.{size-keep, grown_size-keep}
+use Rattle.year_image.proofs.NumberImages.{size-keep}
 use Rattle.year_image.proofs.Offsets.{width_positive}
 use Rattle.year_image.proofs.Spans.{size-append, grown_size-append}
 use Rattle.file_convert.specs.declared.cut.Cut.{Cut}
 use Rattle.file_convert.specs.declared.cut.Cuts.{Cuts}
 use Rattle.file_convert.specs.Cuts.{piece_of, pieces, pieces_from, IsInOrder, IsInOrderFrom}
-use Rattle.file_convert.proofs.CutLemmas.{size-pieces, grown_size-pieces, order_end}
-use Rattle.plan_images.specs.Edges.{IsEdge, IsMoved, IsBetween, IsLast, growth, growths}
+use Rattle.file_convert.proofs.CutLemmas.{size-pieces, grown_size-pieces}
+use Rattle.plan_images.specs.Edges.{IsEdge, IsMoved, IsBetween, IsLast, growths}
 use Rattle.plan_images.proofs.CutPlaces.{AreBegun, begun_rest, first_ended}
 use Rattle.plan_images.proofs.Sums.{same_growths}
 

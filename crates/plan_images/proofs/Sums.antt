@@ -1,7 +1,7 @@
 -- How many bytes the images of the first cuts are longer.
-use Rattle.std.proofs.Common.{◌≡◌, ℕ, zero, suc, ◌+◌, ◌-◌, ◌<◌, ◌≤◌, List, [], ◌∷◌, ◌++◌, length, take, get_or, refl, sym, ap, ◌∙◌, subst, arith}
-use Rattle.std.proofs.lemmas.List.{take_more, take_all, length-take-le}
-use Rattle.year_image.specs.Piece.{width, grown_width}
+use Rattle.std.proofs.Common.{◌≡◌, ℕ, zero, suc, ◌+◌, ◌<◌, ◌≤◌, List, [], ◌∷◌, ◌++◌, length, take, get_or, refl, ap, ◌∙◌, arith}
+use Rattle.std.proofs.lemmas.List.{take_more}
+use Rattle.year_image.specs.Piece.{width}
 use Rattle.year_image.proofs.Offsets.{width_positive}
 use Rattle.file_convert.specs.declared.cut.Cut.{Cut}
 use Rattle.file_convert.specs.declared.cut.Cuts.{Cuts}

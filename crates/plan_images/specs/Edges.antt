@@ -1,5 +1,5 @@
 -- Spans of an area that begin and end between pieces, and where they stand after the conversion.
-use Rattle.std.specs.Prelude.{◌≡◌, ℕ, ◌+◌, ◌-◌, ◌<◌, ◌≤◌, ◌++◌, List, [], ◌∷◌, map, Option, Some, slice_get}
+use Rattle.std.specs.Prelude.{◌≡◌, ℕ, ◌+◌, ◌-◌, ◌<◌, ◌≤◌, ◌++◌, List, [], ◌∷◌, map, Some, slice_get}
 use Rattle.y2k_base.specs.declared.place.Span.{Span}
 use Rattle.year_image.specs.Piece.{Piece, width, grown_width, size, grown_size}
 use Rattle.file_convert.specs.declared.cut.Cut.{Cut}

@@ -1,5 +1,5 @@
 -- The tables of cuts of areas: the years of each, in their modes.
-use Rattle.std.specs.Prelude.{◌≡◌, ℕ, ◌+◌, ◌<◌, ◌≤◌, ◌==◌, ◌++◌, Bool, List, [], ◌∷◌, length, map, filter, All, slice_index, slice_index_or, slice_set, Option}
+use Rattle.std.specs.Prelude.{◌≡◌, ℕ, ◌+◌, ◌<◌, ◌≤◌, ◌==◌, ◌++◌, Bool, List, [], ◌∷◌, length, map, filter, All, slice_index, slice_index_or, slice_set}
 use Rattle.y2k_base.specs.declared.place.AreaId.{AreaId}
 use Rattle.y2k_base.specs.declared.place.BytePlace.{BytePlace}
 use Rattle.year_labels.specs.declared.label.Fact.{Fact}
