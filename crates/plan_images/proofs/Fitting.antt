@@ -41,7 +41,7 @@ in_order_from_row (m ∷ n ∷ ms) row =
 pub in_order : (ms : List YearMode) (count : ℕ) → length ms ≤ count → AreInRow ms count → IsTrue true ↔ AreInOrder (years_of ms)
 in_order ms count all row = (λ e. in_order_from_row ms (λ i d l. row i d (omega (arith, l, all))), λ h. refl)
 
-among : (y : Year) (ms : List YearMode) (i : ℕ) (d : YearMode) → AllByRecursion (EndsBefore y) (years_of ms) → i < length ms → EndsBefore y (get_or ms i d).year
+pub among : (y : Year) (ms : List YearMode) (i : ℕ) (d : YearMode) → AllByRecursion (EndsBefore y) (years_of ms) → i < length ms → EndsBefore y (get_or ms i d).year
 among y [] i d h l = absurd (omega (arith, l))
 among y (m ∷ ms) zero d h l = h.0
 among y (m ∷ ms) (suc i) d h l = among y ms i d h.1 (omega (arith, l))
@@ -55,8 +55,7 @@ row_from_order (m ∷ ms) h (suc i) d l = row_from_order ms h.1 i d (omega (arit
 pub not_in_order : (ms : List YearMode) (i : ℕ) (d e : YearMode) (b : Bool) → 1 ≤ i → i < length ms → (IsTrue b ↔ EndsBefore (get_or ms (i - 1) d).year (get_or ms i e).year) → b ≡ false → IsTrue false ↔ AreInOrder (years_of ms)
 not_in_order ms i d e b low l is fails =
     let next : suc (i - 1) ≡ i = omega (arith, low) in
-    let same : get_or ms i d ≡ get_or ms i e = get_or_default ms i d e l in
-    (
+    let same : get_or ms i d ≡ get_or ms i e = get_or_default ms i d e l in (
       λ f. absurd (let g : false ≡ true = f in cc),
       λ h.
           let here : EndsBefore (get_or ms (i - 1) d).year (get_or ms (suc (i - 1)) d).year = row_from_order ms h (i - 1) d (omega (arith, next, l)) in

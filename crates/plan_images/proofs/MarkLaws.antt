@@ -25,7 +25,7 @@ use Rattle.file_convert.specs.declared.cut.Cuts.{Cuts}
 use Rattle.file_convert.specs.Cuts.{piece_at, piece_of, pieces, pieces_from, IsInOrder, IsInOrderFrom}
 use Rattle.plan_images.specs.Edges.{Covers}
 use Rattle.plan_images.specs.Marks.{mark_of, IsMark, IsLabelled}
-use Rattle.plan_images.specs.Tables.{kind_of, cut_of, cuts_in, is_in, byte_at, years_of, AreMarksOf}
+use Rattle.plan_images.specs.Tables.{table_of, kind_of, cut_of, cuts_in, is_in, byte_at, years_of, AreMarksOf}
 use Rattle.plan_images.proofs.CutPlaces.{starts_from}
 
 -- Marks of the pieces of cuts.
@@ -70,15 +70,15 @@ mark-from at end (c ∷ cs) o h low within =
     let long : size (replicate gap Keep) ≡ gap = size-keep gap in
     elim (cases_lt o c.offset) [
       | inl before ↦ inr (
-          λ d there covers. elim (Contains-append_cases (c ∷ []) cs d there) [
-            | inl here ↦
-                let same : c ≡ d = only c d here in
-                let offset : c.offset ≡ d.offset = ap (λ (x : Cut). x.offset) same in
-                omega (arith, offset, covers.0, before)
-            | inr later ↦ not_later (c.offset + width p) end cs o h.2 (omega (arith, before)) d later covers
-          ],
-          kept_mark gap (p ∷ rest) (o - at) (omega (arith, before, low, h.0))
-        )
+        λ d there covers. elim (Contains-append_cases (c ∷ []) cs d there) [
+          | inl here ↦
+              let same : c ≡ d = only c d here in
+              let offset : c.offset ≡ d.offset = ap (λ (x : Cut). x.offset) same in
+              omega (arith, offset, covers.0, before)
+          | inr later ↦ not_later (c.offset + width p) end cs o h.2 (omega (arith, before)) d later covers
+        ],
+        kept_mark gap (p ∷ rest) (o - at) (omega (arith, before, low, h.0)),
+      )
       | inr begun ↦ elim (cases_lt o (c.offset + width p)) [
         | inl inside ↦
             let k : ℕ = o - c.offset in
@@ -95,15 +95,15 @@ mark-from at end (c ∷ cs) o h low within =
             elim (mark-from (c.offset + width p) end cs o h.2 past within) [
               | inl found ↦ inl (found.0, Contains-append_right (c ∷ []) cs found.0 found.1, found.2, found.3, found.4, there ∙ found.5)
               | inr none ↦ inr (
-                  λ d at_d covers. elim (Contains-append_cases (c ∷ []) cs d at_d) [
-                    | inl here ↦
-                        let same : c ≡ d = only c d here in
-                        let ends : c.offset + width (piece_of c) ≡ d.offset + width (piece_of d) = ap (λ (x : Cut). x.offset + width (piece_of x)) same in
-                        omega (arith, ends, covers.1, past)
-                    | inr later ↦ none.0 d later covers
-                  ],
-                  there ∙ none.1
-                )
+                λ d at_d covers. elim (Contains-append_cases (c ∷ []) cs d at_d) [
+                  | inl here ↦
+                      let same : c ≡ d = only c d here in
+                      let ends : c.offset + width (piece_of c) ≡ d.offset + width (piece_of d) = ap (λ (x : Cut). x.offset + width (piece_of x)) same in
+                      omega (arith, ends, covers.1, past)
+                  | inr later ↦ none.0 d later covers
+                ],
+                there ∙ none.1,
+              )
             ]
       ]
     ]
@@ -141,6 +141,7 @@ mapped (m ∷ ms) area c there = of_test (mapped ms area c) (is_in area m) refl 
   where
     later : (mode : YearMode) × Contains ms mode × (mode.year.place.area.0 ≡ area) × (cut_of mode ≡ c) → (mode : YearMode) × Contains (m ∷ ms) mode × (mode.year.place.area.0 ≡ area) × (cut_of mode ≡ c)
     later r = (r.0, Contains-append_right (m ∷ []) ms r.0 r.1, r.2, r.3)
+
     of_test : (Contains (cuts_in area ms) c → (mode : YearMode) × Contains ms mode × (mode.year.place.area.0 ≡ area) × (cut_of mode ≡ c)) → (b : Bool) → is_in area m ≡ b → Contains (map cut_of (cond b (m ∷ filter (is_in area) ms) (filter (is_in area) ms))) c → (mode : YearMode) × Contains (m ∷ ms) mode × (mode.year.place.area.0 ≡ area) × (cut_of mode ≡ c)
     of_test rest true e (zero, l, f) = (m, Contains-append_left (m ∷ []) ms m (Contains-push [] m), eqb-true m.year.place.area.0 area e, f)
     of_test rest true e (suc k, l, f) = later (rest (k, omega (arith, l), f))
@@ -182,12 +183,13 @@ of_years modes area o mark (inr h) = inr (
   h.1,
 )
 
-pub marked : (modes : List YearMode) (area : ℕ) (table : Cuts) → IsInOrder table → table.list ≡ cuts_in area modes → AreMarksOf modes area table
-marked modes area table h e = λ o within.
-    let zero_less : o - 0 ≡ o = omega arith in
-    let at : IsMarkAt table.list o (get_or (marks (pieces table)) (o - 0) Still) = mark-from 0 table.length table.list o h.2 (omega arith) within in
-    let at' : IsMarkAt table.list o (get_or (marks (pieces table)) o Still) = subst (λ (n : ℕ). IsMarkAt table.list o (get_or (marks (pieces table)) n Still)) zero_less at in
-    of_years modes area o (get_or (marks (pieces table)) o Still) (subst (λ (cs : List Cut). IsMarkAt cs o (get_or (marks (pieces table)) o Still)) e at')
+pub marked : (modes : List YearMode) (area n : ℕ) (table : Cuts) → IsInOrder table → table ≡ table_of modes area n → AreMarksOf modes area n (pieces table)
+marked modes area n table h e = λ o within.
+    let long : table.length ≡ n = ap (λ (x : Cuts). x.length) e in
+    let all : o - 0 ≡ o = omega arith in
+    let at : IsMarkAt table.list o (get_or (marks (pieces table)) (o - 0) Still) = mark-from 0 table.length table.list o h.2 (omega arith) (omega (arith, long, within)) in
+    let at' : IsMarkAt table.list o (get_or (marks (pieces table)) o Still) = subst (λ (n : ℕ). IsMarkAt table.list o (get_or (marks (pieces table)) n Still)) all at in
+    of_years modes area o (get_or (marks (pieces table)) o Still) (subst (λ (cs : List Cut). IsMarkAt cs o (get_or (marks (pieces table)) o Still)) (ap (λ (x : Cuts). x.list) e) at')
 
 -- Labels.
 

@@ -67,8 +67,7 @@ at_cut at end (d ∷ cs) (suc i) c h is =
     let r = at_cut (d.offset + width (piece_of d)) end cs i c h.2 is in
     let front = replicate (d.offset - at) Keep ++ (piece_of d ∷ []) in
     let front' = replicate (d.offset - at) Keep in
-    let long : size front ≡ (d.offset - at) + (width (piece_of d) + 0) = size-append front' (piece_of d ∷ []) ∙ ap (λ (n : ℕ). n + (width (piece_of d) + 0)) (size-keep (d.offset - at)) in
-    (
+    let long : size front ≡ (d.offset - at) + (width (piece_of d) + 0) = size-append front' (piece_of d ∷ []) ∙ ap (λ (n : ℕ). n + (width (piece_of d) + 0)) (size-keep (d.offset - at)) in (
       front ++ r.0,
       r.1,
       ap (λ (l : List Piece). front' ++ (piece_of d ∷ l)) r.2 ∙ sym (append_assoc front' (piece_of d ∷ []) (r.0 ++ (piece_of c ∷ r.1))) ∙ sym (append_assoc front r.0 (piece_of c ∷ r.1)),

@@ -1,3 +1,4 @@
 pub mod Marks
 pub mod Tables
 pub mod Edges
+pub mod Lengths

@@ -9,6 +9,7 @@ use Rattle.year_pairs.specs.declared.year.YearKind.TheVariants as years
 use Rattle.year_pairs.specs.Years.{width, AreInOrder, AreYearsOf}
 use Rattle.year_pairs.specs.Lone.{AreCovered}
 use Rattle.window_modes.specs.declared.modes.YearMode.{YearMode}
+use Rattle.year_image.specs.Piece.{Piece, size}
 use Rattle.year_image.specs.Marks.{Still, marks}
 use Rattle.file_convert.specs.declared.cut.Cut.{Cut}
 use Rattle.file_convert.specs.declared.cut.Cuts.{Cuts}
@@ -34,7 +35,7 @@ cuts_in area modes = map cut_of (filter (is_in area) modes)
 
 -- the table of an area of that length
 abbrev pub table_of : List YearMode → ℕ → ℕ → Cuts
-table_of modes area size = record { length = size; list = cuts_in area modes }
+table_of modes area n = record { length = n; list = cuts_in area modes }
 
 -- byte `offset` of the area of that number
 abbrev pub byte_at : ℕ → ℕ → BytePlace
@@ -64,15 +65,17 @@ pub record AreFit (lengths : List ℕ) (modes : List YearMode) : Type 0 where
 
 -- What is known of tables.
 
--- each byte has the mark that the years say, and so the pieces of the record are the ones with these marks
-abbrev pub AreMarksOf : List YearMode → ℕ → Cuts → Type 0
-AreMarksOf modes area table = (offset : ℕ) → offset < table.length → IsMark modes (byte_at area offset) (slice_index_or (marks (pieces table)) offset Still)
+-- each byte of so many has the mark that the years say
+abbrev pub AreMarksOf : List YearMode → ℕ → ℕ → List Piece → Type 0
+AreMarksOf modes area n ps = (offset : ℕ) → offset < n → IsMark modes (byte_at area offset) (slice_index_or (marks ps) offset Still)
 
--- the cuts of an area of that length
-pub record IsTableOf (modes : List YearMode) (area size : ℕ) (table : Cuts) : Type 0 where
-  pub cuts : table ≡ table_of modes area size
+-- the cuts of an area of that length: their pieces are the only ones with these marks
+pub record IsTableOf (modes : List YearMode) (area n : ℕ) (table : Cuts) : Type 0 where
+  pub cuts : table ≡ table_of modes area n
   pub ordered : IsInOrder table
-  pub marked : AreMarksOf modes area table
+  pub long : size (pieces table) ≡ n
+  pub marked : AreMarksOf modes area n (pieces table)
+  pub only : (ps : List Piece) → size ps ≡ n → AreMarksOf modes area n ps → ps ≡ pieces table
 
 -- of no area
 abbrev pub no_cuts : Cuts
@@ -81,7 +84,7 @@ no_cuts = record { length = 0; list = [] }
 -- While they are filled.
 
 abbrev pub empty : ℕ → Cuts
-empty size = record { length = size; list = [] }
+empty n = record { length = n; list = [] }
 
 -- the table of that number has one cut more
 abbrev pub with_cut : List Cuts → ℕ → Cut → List Cuts

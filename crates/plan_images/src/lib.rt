@@ -5,9 +5,11 @@
 mod build;
 mod fit;
 mod images;
+mod lengths;
 mod table;
 #[cfg(test)]
 mod tests;
 
 pub use fit::are_fit;
 pub use images::{Images, images_of};
+pub use lengths::area_lengths;

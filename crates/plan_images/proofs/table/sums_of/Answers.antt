@@ -19,9 +19,8 @@ loop-i-preserved c =
     let i = c.loop-i.i in
     let within : i < length cs = omega (arith, ap length c.items-list.ensures) in
     let more : c.growth_of-sum.result ≡ growth (get_or cs i no_cut) = c.growth_of-sum.ensures ∙ ap (λ (l : List Cut). growth (get_or l i no_cut)) c.items-list.ensures in
-    let sum : c.loop-i.sum + c.growth_of-sum.result ≡ growths (take i cs) + growth (get_or cs i no_cut) = omega (arith, more, c.loop-i.invariant.1) in
-    (
+    let sum : c.loop-i.sum + c.growth_of-sum.result ≡ growths (take i cs) + growth (get_or cs i no_cut) = omega (arith, more, c.loop-i.invariant.1) in (
       c.in_ok-push-2.ensures.ok ∙ ap (λ (l : List ℕ). l ++ (c.loop-i.sum + c.growth_of-sum.result) ∷ []) c.loop-i.invariant.0
-      ∙ ap (λ (n : ℕ). sums_from 0 (take i cs) ++ n ∷ []) sum ∙ sym (sums-more cs i no_cut within),
+          ∙ ap (λ (n : ℕ). sums_from 0 (take i cs) ++ n ∷ []) sum ∙ sym (sums-more cs i no_cut within),
       sum ∙ sym (growths-more cs i no_cut within),
     )
