@@ -6,3 +6,4 @@ pub mod MarkLaws
 pub mod OnlyPieces
 pub mod Filling
 pub mod Fitting
+pub mod AlikeSpans

@@ -41,7 +41,7 @@ all_kept zero (suc x) = refl
 all_kept (suc n) zero = refl
 all_kept (suc n) (suc x) = all_kept n x
 
-past_mark : (b r : List Piece) (n x : ℕ) → n ≡ size b + x → get_or (marks (b ++ r)) n Still ≡ get_or (marks r) x Still
+pub past_mark : (b r : List Piece) (n x : ℕ) → n ≡ size b + x → get_or (marks (b ++ r)) n Still ≡ get_or (marks r) x Still
 past_mark b r n x e =
     let long : length (marks b) ≡ size b = length-marks b in
     let f : n ≡ length (marks b) + x = omega (arith, e, long) in
@@ -161,7 +161,7 @@ among (m ∷ ms) area mode (suc k, l, f) e =
     of_test true at = Contains-append_right (cut_of m ∷ []) (cuts_in area ms) (cut_of mode) at
     of_test false at = at
 
-same_place : (area offset : ℕ) (place : BytePlace) → place.area.0 ≡ area → place.offset ≡ offset → place ≡ byte_at area offset
+pub same_place : (area offset : ℕ) (place : BytePlace) → place.area.0 ≡ area → place.offset ≡ offset → place ≡ byte_at area offset
 same_place area offset place e f = λ i. record { area = record { 0 = e i }; offset = f i }
 
 of_years : (modes : List YearMode) (area o : ℕ) (mark : Mark) → IsMarkAt (cuts_in area modes) o mark → IsMark modes (byte_at area o) mark

@@ -60,7 +60,7 @@ same_mark modes place a b h (inl f) (inr g) = absurd (g.0 f.0 f.1 (f.2.0, f.2.1,
 same_mark modes place a b h (inr f) (inl g) = absurd (f.0 g.0 g.1 (g.2.0, g.2.1, g.2.2))
 same_mark modes place a b h (inr f) (inr g) = f.1 ∙ sym g.1
 
-same_marks : (xs ys : List Mark) → length xs ≡ length ys → ((i : ℕ) → i < length xs → get_or xs i Still ≡ get_or ys i Still) → xs ≡ ys
+pub same_marks : (xs ys : List Mark) → length xs ≡ length ys → ((i : ℕ) → i < length xs → get_or xs i Still ≡ get_or ys i Still) → xs ≡ ys
 same_marks [] [] e h = refl
 same_marks [] (y ∷ ys) e h = absurd (omega (arith, e))
 same_marks (x ∷ xs) [] e h = absurd (omega (arith, e))

@@ -5,6 +5,7 @@
 mod build;
 mod fit;
 mod images;
+mod laws;
 mod lengths;
 mod table;
 #[cfg(test)]
@@ -12,4 +13,5 @@ mod tests;
 
 pub use fit::are_fit;
 pub use images::{Images, images_of};
+pub use laws::alike_spans_grow_alike;
 pub use lengths::area_lengths;
