@@ -1,12 +1,14 @@
 -- Where the cuts of a record stand, one after the other.
-use Rattle.std.proofs.Common.{◌≡◌, ℕ, zero, suc, ◌+◌, ◌<◌, ◌≤◌, inl, inr, List, [], ◌∷◌, length, Some, slice_get, get_or, refl, ap, ◌∙◌, arith, Contains}
+use Rattle.std.proofs.Common.{◌≡◌, ℕ, zero, suc, ◌+◌, ◌-◌, ◌<◌, ◌≤◌, ◌&&◌, Bool, true, false, cond, ltb, inl, inr, List, [], ◌∷◌, length, take, drop, None, Some, slice_get, get_or, refl, sym, ap, ◌∙◌, arith, Contains}
 use Rattle.std.specs.List.Sorted.{IsNonDecreasingBy}
-use Rattle.std.proofs.lemmas.Bool.{cases_lt}
+use Rattle.std.specs.Prelude.{filter, IfNone, Option}
+use Rattle.std.proofs.lemmas.Bool.{cases_lt, lt-leb, le-leb, le-ltb, lt-ltb}
 use Rattle.std.proofs.lemmas.Option.{slice_get-get_or}
 use Rattle.year_image.specs.Piece.{width}
 use Rattle.file_convert.specs.declared.cut.Cut.{Cut}
+use Rattle.file_convert.specs.declared.cut.CutKind.TheVariants as kinds
 use Rattle.file_convert.specs.Cuts.{piece_of, IsInOrderFrom}
-use Rattle.plan_images.specs.Edges.{Covers, IsLast}
+use Rattle.plan_images.specs.Edges.{begins_between, IsLast}
 
 -- the first `count` cuts are those that begin before that offset
 abbrev pub AreBegun : List Cut → ℕ → ℕ → Type 0
@@ -48,22 +50,72 @@ none_begun at end s c cs zero h b low = refl
 none_begun at end s c [] (suc count) h b low = absurd (omega (arith, b.0))
 none_begun at end s c (n ∷ cs) (suc count) h b low = absurd (omega (arith, h.2.0, b.1 1 n (omega arith), low))
 
--- of the cuts that begin before an offset only the last can go on behind it
-pub only_last : (at end o count : ℕ) (cs : List Cut) → IsInOrderFrom at end cs → AreBegun cs count (o + 1) → ((x : Cut) → IsLast cs count x → x.offset + width (piece_of x) ≤ o) → (c : Cut) → Contains cs c → Covers c o → ⊥
-only_last at end o count cs h b ended c there covers =
+-- of the cuts that begin before an offset only the last can end behind it
+pub only_last : (at end s t count : ℕ) (cs : List Cut) → IsInOrderFrom at end cs → AreBegun cs count s → s ≤ t + 1 → ((x : Cut) → IsLast cs count x → x.offset + width (piece_of x) ≤ t) → (c : Cut) → Contains cs c → c.offset < s → t < c.offset + width (piece_of c) → ⊥
+only_last at end s t count cs h b near ended c there begins ends =
     let i = there.0 in
     let same : (get_or cs i c).offset ≡ c.offset = ap (λ (x : Cut). x.offset) there.2 in
-    let ends : (get_or cs i c).offset + width (piece_of (get_or cs i c)) ≡ c.offset + width (piece_of c) = ap (λ (x : Cut). x.offset + width (piece_of x)) there.2 in
+    let last_byte : (get_or cs i c).offset + width (piece_of (get_or cs i c)) ≡ c.offset + width (piece_of c) = ap (λ (x : Cut). x.offset + width (piece_of x)) there.2 in
     elim (cases_lt i count) [
       | inl begun ↦ elim (cases_lt (i + 1) count) [
         | inl before ↦
             let next : (get_or cs i c).offset + width (piece_of (get_or cs i c)) ≤ (get_or cs (i + 1) c).offset = ends_before at end cs i (i + 1) c h (omega arith) (omega (arith, b.0)) in
-            let low : (get_or cs (i + 1) c).offset < o + 1 = b.1 (i + 1) c before in
-            omega (arith, next, low, ends, covers.1)
+            let low : (get_or cs (i + 1) c).offset < s = b.1 (i + 1) c before in
+            omega (arith, next, low, last_byte, ends, near)
         | inr last ↦
             let is : slice_get cs i ≡ Some c = slice_get-get_or cs i c there.1 ∙ ap (λ (x : Cut). Some x) there.2 in
-            let low : c.offset + width (piece_of c) ≤ o = ended c (i, omega arith, is) in
-            omega (arith, low, covers.1)
+            let low : c.offset + width (piece_of c) ≤ t = ended c (i, omega arith, is) in
+            omega (arith, low, ends)
       ]
-      | inr later ↦ let low : o + 1 ≤ (get_or cs i c).offset = b.2 i c later there.1 in omega (arith, low, same, covers.0)
+      | inr later ↦ let low : s ≤ (get_or cs i c).offset = b.2 i c later there.1 in omega (arith, low, same, begins)
     ]
+
+-- fewer cuts begin before an earlier offset
+pub fewer : (cs : List Cut) (first last s e : ℕ) → AreBegun cs first s → AreBegun cs last e → s ≤ e → first ≤ last
+fewer cs first last s e b c l = elim (cases_lt last first) [
+  | inl more ↦ absurd (
+      let none : Cut = record { offset = 0; kind = kinds.Pair; pivot = None } in
+      omega (arith, b.1 last none more, c.2 last none (omega arith) (omega (arith, b.0)), l))
+  | inr at_most ↦ at_most
+]
+
+begun_none : (c : Cut) (cs : List Cut) (s : ℕ) → AreBegun (c ∷ cs) 0 s → AreBegun cs 0 s
+begun_none c cs s b = (omega arith, λ i d l. absurd (omega (arith, l)), λ i d l m. b.2 (suc i) d (omega arith) (omega (arith, m)))
+
+not_yet : (s e : ℕ) (c : Cut) → c.offset < s → begins_between s e c ≡ false
+not_yet s e c l = ap (λ (b : Bool). b && ltb c.offset e) (lt-leb s c.offset l)
+
+no_more : (s e : ℕ) (c : Cut) → s ≤ c.offset → e ≤ c.offset → begins_between s e c ≡ false
+no_more s e c l m = ap (λ (b : Bool). b && ltb c.offset e) (le-leb s c.offset l) ∙ le-ltb c.offset e m
+
+now : (s e : ℕ) (c : Cut) → s ≤ c.offset → c.offset < e → begins_between s e c ≡ true
+now s e c l m = ap (λ (b : Bool). b && ltb c.offset e) (le-leb s c.offset l) ∙ lt-ltb c.offset e m
+
+-- the cuts that begin between two offsets
+pub between : (cs : List Cut) (first last s e : ℕ) → AreBegun cs first s → AreBegun cs last e → s ≤ e → take (last - first) (drop first cs) ≡ filter (begins_between s e) cs
+between [] zero zero s e b f l = refl
+between [] zero (suc last) s e b f l = absurd (omega (arith, f.0))
+between [] (suc first) last s e b f l = absurd (omega (arith, b.0))
+between (c ∷ cs) zero zero s e b f l =
+    let low : s ≤ c.offset = b.2 0 c (omega arith) (omega arith) in
+    let high : e ≤ c.offset = f.2 0 c (omega arith) (omega arith) in
+    let rest : take 0 (drop 0 cs) ≡ filter (begins_between s e) cs = between cs 0 0 s e (begun_none c cs s b) (begun_none c cs e f) l in
+    rest ∙ ap (λ (t : Bool). cond t (c ∷ filter (begins_between s e) cs) (filter (begins_between s e) cs)) (sym (no_more s e c low high))
+between (c ∷ cs) zero (suc last) s e b f l =
+    let low : s ≤ c.offset = b.2 0 c (omega arith) (omega arith) in
+    let high : c.offset < e = f.1 0 c (omega arith) in
+    let rest : take (last - 0) cs ≡ filter (begins_between s e) cs = between cs 0 last s e (begun_none c cs s b) (begun_rest c cs last e f) l in
+    let one : suc last - 0 ≡ suc (last - 0) = omega arith in
+    ap (λ (n : ℕ). take n (c ∷ cs)) one ∙ ap (λ (l : List Cut). c ∷ l) rest
+    ∙ ap (λ (t : Bool). cond t (c ∷ filter (begins_between s e) cs) (filter (begins_between s e) cs)) (sym (now s e c low high))
+between (c ∷ cs) (suc first) zero s e b f l = absurd (omega (arith, b.1 0 c (omega arith), f.2 0 c (omega arith) (omega arith), l))
+between (c ∷ cs) (suc first) (suc last) s e b f l =
+    let rest : take (last - first) (drop first cs) ≡ filter (begins_between s e) cs = between cs first last s e (begun_rest c cs first s b) (begun_rest c cs last e f) l in
+    let same : suc last - suc first ≡ last - first = omega arith in
+    ap (λ (n : ℕ). take n (drop first cs)) same ∙ rest
+    ∙ ap (λ (t : Bool). cond t (c ∷ filter (begins_between s e) cs) (filter (begins_between s e) cs)) (sym (not_yet s e c (b.1 0 c (omega arith))))
+
+-- what is said where there is none
+pub if_none : {P Q : Type 0} (r : Option Cut) → (P → Q) → IfNone r P → IfNone r Q
+if_none None f h = f h
+if_none (Some x) f h = h

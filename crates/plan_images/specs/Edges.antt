@@ -1,5 +1,5 @@
 -- Spans of an area that begin and end between pieces, and where they stand after the conversion.
-use Rattle.std.specs.Prelude.{◌≡◌, ℕ, ◌+◌, ◌-◌, ◌<◌, ◌≤◌, ◌++◌, List, [], ◌∷◌, map, Some, slice_get}
+use Rattle.std.specs.Prelude.{Bool, nat_le, nat_lt, ◌&&◌, ◌≡◌, ℕ, ◌+◌, ◌-◌, ◌<◌, ◌≤◌, ◌++◌, List, [], ◌∷◌, map, Some, slice_get}
 use Rattle.y2k_base.specs.declared.place.Span.{Span}
 use Rattle.year_image.specs.Piece.{Piece, width, grown_width, size, grown_size}
 use Rattle.file_convert.specs.declared.cut.Cut.{Cut}
@@ -32,6 +32,14 @@ IsBetween whole span = (moved : Span) × IsMoved whole span moved
 -- the byte is one of the cut
 abbrev pub Covers : Cut → ℕ → Type 0
 Covers cut offset = (cut.offset ≤ offset) × (offset < cut.offset + width (piece_of cut))
+
+-- the cut begins from one offset on, before another
+abbrev pub begins_between : ℕ → ℕ → Cut → Bool
+begins_between start end cut = nat_le start cut.offset && nat_lt cut.offset end
+
+-- the cut begins before that byte and goes on with it
+abbrev pub GoesAcross : Cut → ℕ → Type 0
+GoesAcross cut offset = (cut.offset < offset) × (offset < cut.offset + width (piece_of cut))
 
 -- the last of so many first cuts
 abbrev pub IsLast : List Cut → ℕ → Cut → Type 0

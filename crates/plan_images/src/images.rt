@@ -1,9 +1,9 @@
-ghost use Rattle.std.specs.Prelude.{◌≡◌, ◌+◌, ◌<◌, ◌≤◌, IfOk, IfNone, IfSome, Contains, length, MatchOption};
+ghost use Rattle.std.specs.Prelude.{◌≡◌, ◌+◌, ◌<◌, ◌≤◌, IfOk, IfNone, IfSome, Contains, filter, length};
 ghost use Rattle.year_image.specs.Piece.{grown_size};
 ghost use Rattle.year_image.specs.Offset.{image_offset};
 ghost use Rattle.file_convert.specs.declared.cut.Cut.{Cut as AnyCut};
 ghost use Rattle.file_convert.specs.Cuts.{pieces, IsInOrder};
-ghost use Rattle.plan_images.specs.Edges.{Covers, IsBetween, IsEdge, IsMoved, IsSound};
+ghost use Rattle.plan_images.specs.Edges.{Covers, GoesAcross, IsBetween, IsMoved, IsSound, begins_between};
 ghost use Rattle.plan_images.specs.Tables.{AreFit, AreImagesOf, AreLabelled, cuts_at};
 
 use crate::build::{cuts_of_areas, tables_of};
@@ -95,6 +95,25 @@ impl Images {
         ensures none { IfNone result ((cut : AnyCut) → Contains (cuts_at self.now place.area).list cut → Covers cut place.offset → ⊥) }
     {
         self.table(place.area).year_at(place.offset)
+    }
+
+    /// The year that begins before the byte and goes on with it, so that nothing can begin or end there.
+    pub fn year_across(&self, place: BytePlace) -> Option<Cut>
+        requires { place.area.0 < length self.now }
+        ensures found { IfSome result (λ cut. Contains (cuts_at self.now place.area).list cut × GoesAcross cut place.offset) }
+        ensures none { IfNone result ((cut : AnyCut) → Contains (cuts_at self.now place.area).list cut → GoesAcross cut place.offset → ⊥) }
+    {
+        self.table(place.area).year_across(place.offset)
+    }
+
+    /// The years that begin in a span.
+    pub fn years_in(&self, span: Span) -> &[Cut]
+        requires area { span.area.0 < length self.now }
+        requires within { span.offset + span.length ≤ (cuts_at self.now span.area).length }
+        ensures { result.now ≡ filter (begins_between span.offset (span.offset + span.length)) (cuts_at self.now span.area).list }
+    {
+        let table = self.table(span.area);
+        table.years_between(span.offset, span.offset + span.length)
     }
 
     /// Where a span stands in the image of its area; `None` exactly where it begins or ends inside a year.

@@ -1,9 +1,9 @@
-ghost use Rattle.std.specs.Prelude.{◌≡◌, ◌+◌, ◌-◌, ◌<◌, ◌≤◌, ℕ, IfOk, IfNone, IfSome, IsTrue, ◌↔◌, MatchOption, Contains, length, slice_index_or, take};
+ghost use Rattle.std.specs.Prelude.{◌≡◌, ◌+◌, ◌-◌, ◌<◌, ◌≤◌, ℕ, IfOk, IfNone, IfSome, IsTrue, ◌↔◌, MatchOption, Contains, filter, length, slice_index_or, take, drop};
 ghost use Rattle.year_image.specs.Piece.{width, grown_size};
 ghost use Rattle.year_image.specs.Offset.{image_offset};
 ghost use Rattle.file_convert.specs.declared.cut.Cut.{Cut as AnyCut};
 ghost use Rattle.file_convert.specs.Cuts.{piece_of, pieces, IsInOrder};
-ghost use Rattle.plan_images.specs.Edges.{Covers, IsEdge, IsLast, IsSound, growth, growths, sums_from};
+ghost use Rattle.plan_images.specs.Edges.{Covers, GoesAcross, IsEdge, IsLast, IsSound, begins_between, growth, growths, sums_from};
 
 use file_convert::{Cut, CutKind, Cuts};
 use std::alloc::Global;
@@ -164,6 +164,36 @@ impl Table {
     {
         let count = self.begun_before(offset + 1);
         self.cut_over(count, offset)
+    }
+
+    /// The year that begins before that byte and goes on with it.
+    pub fn year_across(&self, offset: u32) -> Option<Cut>
+        requires { IsSound self.now }
+        ensures found { IfSome result (λ cut. Contains self.now.cuts.list cut × GoesAcross cut offset) }
+        ensures none { IfNone result ((cut : AnyCut) → Contains self.now.cuts.list cut → GoesAcross cut offset → ⊥) }
+    {
+        let count = self.begun_before(offset);
+        self.cut_over(count, offset)
+    }
+
+    /// The years that begin from the one offset on, before the other.
+    pub fn years_between(&self, start: u32, end: u32) -> &[Cut]
+        requires sound { IsSound self.now }
+        requires order { start ≤ end }
+        ensures { result.now ≡ filter (begins_between start end) self.now.cuts.list }
+    {
+        let first = self.begun_before(start);
+        let last = self.begun_before(end);
+        self.part(first, last)
+    }
+
+    /// The cuts from that index on, up to the other.
+    fn part(&self, first: usize, last: usize) -> &[Cut]
+        requires order { first ≤ last }
+        requires within { last ≤ length self.now.cuts.list }
+        ensures { result.now ≡ take (last - first) (drop first self.now.cuts.list) }
+    {
+        &self.cuts.list.items()[first..last]
     }
 
     /// How many bytes what stands before that offset has in the image, unless the offset lies inside a year.

@@ -122,6 +122,66 @@ fn year_at(
     }
 }
 
+fn found_across(images: &Images, place: BytePlace) -> Option<Cut> {
+    if (place.area.0 as usize) < images.count() {
+        images.year_across(place)
+    } else {
+        None
+    }
+}
+
+/// The year that begins before the byte and goes on with it.
+fn year_across(
+    alloc: Global,
+    lengths: &[u32],
+    years: &[YearMode],
+    place: (u32, u32),
+) -> Result<Option<Cut>, Fail> {
+    if are_fit(lengths, years) {
+        let images = images_of(alloc, lengths, years)?;
+        let (area, offset) = place;
+        let area = AreaId(area);
+        Ok(found_across(&images, BytePlace { area, offset }))
+    } else {
+        Ok(None)
+    }
+}
+
+fn count_in(images: &Images, span: Span) -> usize {
+    if (span.area.0 as usize) < images.count() {
+        let length = images.cuts(span.area).length;
+        if span.length <= length && span.offset <= length - span.length {
+            images.years_in(span).len()
+        } else {
+            0
+        }
+    } else {
+        0
+    }
+}
+
+/// How many years begin in a part of an area.
+fn years_in(
+    alloc: Global,
+    lengths: &[u32],
+    years: &[YearMode],
+    span: (u32, u32, u32),
+) -> Result<usize, Fail> {
+    if are_fit(lengths, years) {
+        let images = images_of(alloc, lengths, years)?;
+        let (area, offset, length) = span;
+        let area = AreaId(area);
+        let span = Span {
+            area,
+            offset,
+            length,
+        };
+        Ok(count_in(&images, span))
+    } else {
+        Ok(0)
+    }
+}
+
 fn copy_cuts(images: &Images, area: AreaId, cuts: &mut List<Cut>) -> Result<(), Fail> {
     if (area.0 as usize) < images.count() {
         cuts.append(images.cuts(area).list.items())?;
@@ -237,6 +297,27 @@ fn cuts_are_the_years_of_the_area(rt: HostRuntime) -> Result<(), Fail> {
     assert!(rt; year_at(alloc, &lengths, &years, (2, 2))? == None);
     assert!(rt; year_at(alloc, &lengths, &years, (2, 7))? == Some(number));
     assert!(rt; year_at(alloc, &lengths, &years, (0, 0))? == None);
+    Ok(())
+}
+
+#[test]
+fn years_lie_across_bytes_and_in_spans(rt: HostRuntime) -> Result<(), Fail> {
+    let alloc = rt.alloc();
+    let lengths = [8];
+    let years = [pair(0, 1), packed(0, 3, 4, 2, None), pair(0, 6)];
+    let number = Cut {
+        offset: 3,
+        kind: CutKind::Packed { digits: 4, unit: 2 },
+        pivot: None,
+    };
+    assert!(rt; year_across(alloc, &lengths, &years, (0, 3))? == None);
+    assert!(rt; year_across(alloc, &lengths, &years, (0, 4))? == Some(number));
+    assert!(rt; year_across(alloc, &lengths, &years, (0, 5))? == Some(number));
+    assert!(rt; year_across(alloc, &lengths, &years, (0, 6))? == None);
+    assert!(rt; years_in(alloc, &lengths, &years, (0, 0, 8))? == 3);
+    assert!(rt; years_in(alloc, &lengths, &years, (0, 2, 4))? == 1);
+    assert!(rt; years_in(alloc, &lengths, &years, (0, 1, 5))? == 2);
+    assert!(rt; years_in(alloc, &lengths, &years, (0, 4, 2))? == 0);
     Ok(())
 }
 
