@@ -1,0 +1,5 @@
+pub mod Marks
+pub mod Tables
+pub mod Edges
+pub mod Lengths
+pub mod Laws
