@@ -7,3 +7,4 @@ pub mod OnlyPieces
 pub mod Filling
 pub mod Fitting
 pub mod AlikeSpans
+pub mod Numbered
