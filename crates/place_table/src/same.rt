@@ -1,4 +1,4 @@
-ghost use Rattle.std.specs.Prelude.{◌≡◌, IsTrue, map};
+ghost use Rattle.std.specs.Prelude.{◌≡◌, IsTrue, Some, map};
 ghost use Rattle.tree_reading.specs.Reading.{read_place, read_sub, sub_if, part_if};
 
 use cobol_syntax::{Part, Place, Sub};
@@ -6,7 +6,8 @@ use y2k_base::Bytes;
 
 /// Whether two places have the same names, subscripts and reference, wherever they stand.
 pub(crate) fn same_place(left: &Place, right: &Place) -> bool
-    ensures { IsTrue result → read_place left.now ≡ read_place right.now }
+    ensures same { IsTrue result → read_place left.now ≡ read_place right.now }
+    ensures all { read_place left.now ≡ read_place right.now → IsTrue result }
 {
     same_names(left.names.items(), right.names.items())
         && same_subs(left.subs.items(), right.subs.items())
@@ -14,7 +15,8 @@ pub(crate) fn same_place(left: &Place, right: &Place) -> bool
 }
 
 fn same_names(left: &[Bytes], right: &[Bytes]) -> bool
-    ensures { IsTrue result → left.now ≡ right.now }
+    ensures same { IsTrue result → left.now ≡ right.now }
+    ensures all { left.now ≡ right.now → IsTrue result }
 {
     match left {
         [] => right.is_empty(),
@@ -26,13 +28,15 @@ fn same_names(left: &[Bytes], right: &[Bytes]) -> bool
 }
 
 fn same_name(left: &Bytes, right: &Bytes) -> bool
-    ensures { IsTrue result → left.now ≡ right.now }
+    ensures same { IsTrue result → left.now ≡ right.now }
+    ensures all { left.now ≡ right.now → IsTrue result }
 {
     left.items() == right.items()
 }
 
 fn same_subs(left: &[Sub], right: &[Sub]) -> bool
-    ensures { IsTrue result → map read_sub left.now ≡ map read_sub right.now }
+    ensures same { IsTrue result → map read_sub left.now ≡ map read_sub right.now }
+    ensures all { map read_sub left.now ≡ map read_sub right.now → IsTrue result }
 {
     match left {
         [] => right.is_empty(),
@@ -44,7 +48,8 @@ fn same_subs(left: &[Sub], right: &[Sub]) -> bool
 }
 
 fn same_sub(left: &Sub, right: &Sub) -> bool
-    ensures { IsTrue result → read_sub left.now ≡ read_sub right.now }
+    ensures same { IsTrue result → read_sub left.now ≡ read_sub right.now }
+    ensures all { read_sub left.now ≡ read_sub right.now → IsTrue result }
 {
     match left {
         Sub::Number { value, at: _ } => match right {
@@ -62,7 +67,8 @@ fn same_sub(left: &Sub, right: &Sub) -> bool
 }
 
 fn same_cut(left: &Option<Part>, right: &Option<Part>) -> bool
-    ensures { IsTrue result → part_if left.now ≡ part_if right.now }
+    ensures same { IsTrue result → part_if left.now ≡ part_if right.now }
+    ensures all { part_if left.now ≡ part_if right.now → IsTrue result }
 {
     match left {
         None => right.is_none(),
@@ -74,14 +80,15 @@ fn same_cut(left: &Option<Part>, right: &Option<Part>) -> bool
 }
 
 fn same_part(left: &Part, right: &Part) -> bool
-    ensures start { IsTrue result → read_sub left.now.start ≡ read_sub right.now.start }
-    ensures length { IsTrue result → sub_if left.now.length ≡ sub_if right.now.length }
+    ensures same { IsTrue result → part_if (Some left.now) ≡ part_if (Some right.now) }
+    ensures all { part_if (Some left.now) ≡ part_if (Some right.now) → IsTrue result }
 {
     same_sub(&left.start, &right.start) && same_length(&left.length, &right.length)
 }
 
 fn same_length(left: &Option<Sub>, right: &Option<Sub>) -> bool
-    ensures { IsTrue result → sub_if left.now ≡ sub_if right.now }
+    ensures same { IsTrue result → sub_if left.now ≡ sub_if right.now }
+    ensures all { sub_if left.now ≡ sub_if right.now → IsTrue result }
 {
     match left {
         None => right.is_none(),
