@@ -306,7 +306,7 @@ fn done(
 #[test]
 fn a_result_is_stored_at_the_receivers_decimals(rt: HostRuntime) -> Result<(), Fail> {
     let alloc = rt.alloc();
-    let rows: [(&[u8], &[u8], &[u8], &[u8]); 10] = [
+    let rows: [(&[u8], &[u8], &[u8], &[u8]); 11] = [
         (b"M", b"D", b"", b"12"),
         (b"M", b"D", b"R", b"13"),
         (b"S", b"D~", b"R", b"01\x73"),
@@ -317,6 +317,7 @@ fn a_result_is_stored_at_the_receivers_decimals(rt: HostRuntime) -> Result<(), F
         (b"E", b"M", b"", b" 7.0 "),
         (b"P", b"fN-", b"", &[0x09, 0x9d]),
         (b"S", b"NM*D-S+", b"", b"668"),
+        (b"M", b"P2*", b"", b"02"),
     ];
     for (receivers, expr, modes, bytes) in rows {
         assert!(rt; done(alloc, receivers, expr, modes, bytes)? == (Ok(false), true));
@@ -327,7 +328,7 @@ fn a_result_is_stored_at_the_receivers_decimals(rt: HostRuntime) -> Result<(), F
 #[test]
 fn a_size_error_cuts_high_digits_or_keeps_the_receivers(rt: HostRuntime) -> Result<(), Fail> {
     let alloc = rt.alloc();
-    let rows: [(&[u8], &[u8], &[u8], &[u8]); 10] = [
+    let rows: [(&[u8], &[u8], &[u8], &[u8]); 11] = [
         (b"N", b"N1+", b"", b"00"),
         (b"N", b"N1+", b"P", b"99"),
         (b"E", b"N1+", b"", b" 0.0 "),
@@ -338,6 +339,7 @@ fn a_size_error_cuts_high_digits_or_keeps_the_receivers(rt: HostRuntime) -> Resu
         (b"MO", b"NW/", b"", b"009"),
         (b"MO", b"NW/", b"P", b"075"),
         (b"MS", b"1Z/", b"P", b"0701\x72"),
+        (b"T", b"N", b"", b"12"),
     ];
     for (receivers, expr, modes, bytes) in rows {
         assert!(rt; done(alloc, receivers, expr, modes, bytes)? == (Ok(true), true));
