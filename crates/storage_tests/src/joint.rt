@@ -1,4 +1,4 @@
-ghost use Rattle.std.specs.Prelude.{◌≡◌, ◌≤◌, true, IfOk, cond};
+ghost use Rattle.std.specs.Prelude.{◌≡◌, ◌≤◌, IfOk};
 ghost use Rattle.cobol_syntax.specs.declared.cond.Condition.{size-Condition};
 ghost use Rattle.tree_reading.specs.Reading.{read_condition};
 ghost use Rattle.storage_tests.specs.Joints.{joined, AreLess, decides};

@@ -8,7 +8,7 @@ ghost use Rattle.storage_places.specs.Held.{held, first, lengths, IsWithin};
 ghost use Rattle.storage_places.specs.Meets.{Meets};
 ghost use Rattle.layout_reading.specs.Reading.{read_span};
 ghost use Rattle.tree_reading.specs.Reading.{read_place};
-ghost use Rattle.storage_tests.specs.Seen.{seen_bytes, seen_number, IsThere, IsSeen};
+ghost use Rattle.storage_tests.specs.Seen.{seen_number, IsThere, IsSeen};
 
 use cobol_syntax::Place;
 use decimal_bytes::Scaled;

@@ -1,13 +1,11 @@
 ghost use Rattle.std.specs.Prelude.{◌≡◌, IfOk, IfErr, Option, length};
-ghost use Rattle.std.specs.Ordering.{int_cmp};
 ghost use Rattle.y2k_base.specs.declared.picture.Picture.{Picture};
 ghost use Rattle.place_table.specs.Tables.{layout_of, IsStorageOf, Gave, Failed};
 ghost use Rattle.place_table.specs.Views.{HasGrown};
 ghost use Rattle.program_meaning.specs.Compare as meant;
-ghost use Rattle.program_meaning.specs.Tree as tree;
 ghost use Rattle.storage_places.specs.Held.{held};
 ghost use Rattle.storage_places.specs.Reached.{kind_with};
-ghost use Rattle.tree_reading.specs.Reading.{read_expr, read_place, read_rel, read_sign, read_class, read_condition};
+ghost use Rattle.tree_reading.specs.Reading.{read_rel, read_sign, read_class, read_condition};
 ghost use Rattle.storage_tests.specs.Joints.{read_asked};
 ghost use Rattle.storage_tests.specs.Seen.{IsLong};
 

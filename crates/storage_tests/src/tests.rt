@@ -187,13 +187,15 @@ fn put(storage: &mut Storage, area: u32, bytes: &[u8])
     ensures first { first storage.new ≡ first storage.old }
     ensures lengths { lengths (held storage.new) ≡ lengths (held storage.old) }
 {
-    let span = Span {
-        area: AreaId(area),
-        offset: 0,
-        length: bytes.len() as u32,
-    };
-    if bytes.len() < 8 && storage.bytes(span).is_some() {
-        storage.set(span, bytes);
+    if bytes.len() < 8 {
+        let span = Span {
+            area: AreaId(area),
+            offset: 0,
+            length: bytes.len() as u32,
+        };
+        if storage.bytes(span).is_some() {
+            storage.set(span, bytes);
+        }
     }
 }
 
