@@ -1,0 +1,11 @@
+//! OPEN, CLOSE, READ and WRITE of a running program: the file's part, the record area, the status item, INTO and FROM
+//! (ISO 1989:1985, Sequential I-O).
+#![tactic(auto)]
+
+mod calls;
+mod fault;
+mod unit;
+
+pub use calls::{close, open, read, write};
+pub use fault::StepFault;
+pub use unit::RunUnit;

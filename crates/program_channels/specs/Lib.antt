@@ -1,0 +1,4 @@
+pub mod Channel
+pub mod Channels
+pub mod Numbers
+pub mod Tables
