@@ -3,13 +3,12 @@ use Rattle.std.proofs.Common.{◌≡◌, ℕ, zero, suc, ◌+◌, ◌-◌, ◌==
 use Rattle.std.specs.Prelude.{if◌then◌else◌, slice_get}
 use Rattle.std.specs.Str.{bytes_eq}
 use Rattle.data_layout.specs.declared.item.Layout.{Layout}
-use Rattle.program_meaning.specs.Layout as meant
 use Rattle.program_meaning.specs.Layout.{same_name}
 use Rattle.program_meaning.specs.State as state
 use Rattle.program_meaning.specs.State.{World}
-use Rattle.program_meaning.specs.Step.{channel_of, channel_at, record_span}
+use Rattle.program_meaning.specs.Step.{channel_of, channel_at}
 use Rattle.program_meaning.specs.Tree.{Name}
-use Rattle.layout_reading.specs.Reading.{first_area, read_area, read_span}
+use Rattle.layout_reading.specs.Reading.{first_area}
 use Rattle.program_channels.specs.declared.channel.Channel.{Channel}
 use Rattle.program_channels.specs.Channel.{read_channel, IsWhole}
 use Rattle.program_channels.specs.Channels.{HasRecord}
@@ -65,7 +64,7 @@ has-record l c whole = record {
   meant = λ w same.
       let number : c.area ≡ c.span.area.0 - first_area l.areas = omega (arith, whole.number) in
       let bytes : length (slice_index_or w.storage c.area []) ≡ c.span.length =
-          length-at w.storage c.area ∙ ap (λ (ns : List ℕ). slice_index_or ns c.area 0) same ∙ sym whole.bytes in
+      length-at w.storage c.area ∙ ap (λ (ns : List ℕ). slice_index_or ns c.area 0) same ∙ sym whole.bytes in
       ap₂ (λ (a b : ℕ). record { area = a; start = 0; count = b }) number bytes
       ∙ ap (λ (s : ℕ). record { area = c.span.area.0 - first_area l.areas; start = s; count = c.span.length }) (sym whole.start);
 }

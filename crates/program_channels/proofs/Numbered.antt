@@ -1,5 +1,5 @@
 -- The number of a name is how many names stand before it.
-use Rattle.std.proofs.Common.{◌≡◌, ℕ, suc, ◌+◌, ◌==◌, ◌&&◌, Bool, true, false, true≢false, cond, List, [], ◌∷◌, length, map, Option, Some, None, refl, sym, ap, ap₂, ◌∙◌, arith}
+use Rattle.std.proofs.Common.{◌≡◌, ℕ, suc, ◌+◌, ◌==◌, ◌&&◌, Bool, true, false, true≢false, cond, List, [], ◌∷◌, length, map, Option, Some, refl, sym, ap, ap₂, ◌∙◌, arith}
 use Rattle.std.specs.Prelude.{if◌then◌else◌}
 use Rattle.std.specs.Str.{bytes_eq}
 use Rattle.cobol_syntax.specs.declared.program.FileEntry.{FileEntry}
@@ -13,7 +13,7 @@ use Rattle.program_meaning.specs.Tree.{Name}
 use Rattle.tree_reading.specs.Reading.{read_file, read_select, place_if}
 use Rattle.layout_reading.specs.Reading.{externals}
 use Rattle.program_channels.specs.Numbers.{number_or, numbers_of_files, numbers_of_entries}
-use Rattle.program_channels.specs.Tables.{channel_by, channels_by}
+use Rattle.program_channels.specs.Tables.{channels_by}
 
 nat-eq-sym : (c d : ℕ) → (c == d) ≡ (d == c)
 nat-eq-sym c d = grind arith

@@ -1,6 +1,5 @@
-ghost use Rattle.std.specs.Prelude.{◌≡◌, ◌+◌, IfOk, slice_index_or, map, length};
-ghost use Rattle.program_meaning.specs.State as meant;
-ghost use Rattle.tree_reading.specs.Reading.{read_place, place_if};
+ghost use Rattle.std.specs.Prelude.{◌≡◌, ◌+◌, IfOk, slice_index_or, map};
+ghost use Rattle.tree_reading.specs.Reading.{place_if};
 ghost use Rattle.layout_reading.specs.Reading.{first_area, read_area};
 ghost use Rattle.program_channels.specs.Channel.{read_channel, status_of, IsWhole};
 
@@ -24,7 +23,7 @@ pub struct Channel<'a> {
     pub status: Option<&'a Place>,
 }
 
-/// The file of a SELECT. Numbers past 32 bits are want of memory.
+/// The file of a SELECT. A number past 32 bits is want of memory.
 pub(crate) fn channel_of<'a>(
     select: &'a Select,
     file: u32,

@@ -6,7 +6,7 @@ ghost use Rattle.name_tables.specs.Table.{held};
 ghost use Rattle.layout_reading.specs.Reading.{read_channels};
 ghost use Rattle.program_meaning.specs.Step.{channel_of, channel_at};
 ghost use Rattle.program_channels.specs.Channel.{read_channel, IsWhole};
-ghost use Rattle.program_channels.specs.Tables.{placed, places_nothing, with_place, first_named, first_placed, channels_by};
+ghost use Rattle.program_channels.specs.Tables.{placed, with_place, first_named, first_placed, channels_by};
 ghost use Rattle.program_channels.specs.Numbers.{number_in};
 
 use crate::channel;
@@ -22,7 +22,9 @@ use y2k_base::Memory;
 /// The files of a program in the order of their SELECTs, to be found by their names and by the areas of their records.
 pub struct Channels<'a> {
     list: Vec<Channel<'a>>,
+    /// Of whose areas the spans are.
     layout: &'a Layout,
+    /// The places in the list of the first file of each name and of each area.
     names: NameTable<'a, usize>,
     areas: BTreeMap<u32, usize>,
     ghost whole: { AllByRecursion (IsWhole layout.now.areas) list.items } by { Prim.hlevel props },
@@ -44,10 +46,10 @@ impl Drop for Channels<'_> {
 impl<'a> Channels<'a> {
     ghost use Rattle.program_channels.specs.Channels.{channels_of, layout_of, HasRecord};
 
-    /// The files of a program of a portfolio with these external files.
+    /// The files of a program of a portfolio with these external files. A number past 32 bits is want of memory.
     pub fn of(
         alloc: Global,
-        files: &'a [FileUse],
+        files: &[FileUse],
         program: &'a Program,
         layout: &'a Layout,
     ) -> Result<Channels<'a>, Memory>

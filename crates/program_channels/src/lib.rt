@@ -6,8 +6,8 @@
 mod channel;
 mod channels;
 mod numbers;
-
-
+#[cfg(test)]
+mod tests;
 
 pub use channel::Channel;
 pub use channels::Channels;

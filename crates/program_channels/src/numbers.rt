@@ -1,4 +1,4 @@
-ghost use Rattle.std.specs.Prelude.{◌≡◌, ℕ, List, IfOk, map, length};
+ghost use Rattle.std.specs.Prelude.{◌≡◌, ℕ, List, IfOk, map};
 ghost use Rattle.name_tables.specs.Table.{held};
 ghost use Rattle.layout_reading.specs.Reading.{externals};
 ghost use Rattle.tree_reading.specs.Reading.{read_file};
@@ -11,7 +11,8 @@ use name_tables::NameTable;
 use std::alloc::Global;
 use y2k_base::Memory;
 
-/// The numbers of names. A name that isn't there has the number after the last one.
+/// The numbers of names. A name that isn't there has the number after the last one. A number past 32 bits is want of
+/// memory.
 #[derive(Drop)]
 pub(crate) struct Numbers<'a> {
     table: NameTable<'a, u32>,

@@ -1,4 +1,4 @@
-use Rattle.std.proofs.Common.{ℕ, List, ◌∙◌, ap, map, sym, subst, ◌≡◌}
+use Rattle.std.proofs.Common.{List, ◌∙◌, ap, map, ◌≡◌}
 use Rattle.cobol_syntax.specs.declared.program.FileEntry.{FileEntry}
 use Rattle.cobol_syntax.specs.declared.program.Select.{Select}
 use Rattle.tree_reading.specs.Reading.{read_file}
@@ -15,7 +15,7 @@ returns-clause-read c =
     let files = number_in c.in_ok-file_numbers.file_numbers in
     let areas = number_in c.in_ok-area_numbers.area_numbers in
     let fds : (n : Name) → areas n ≡ index_of n (file_names (map read_file c.args.program.now.files)) =
-        λ n. c.in_ok-area_numbers.ensures n ∙ ap (λ (es : List FileEntry). index_of n (file_names (map read_file es))) c.items.ensures in
+    λ n. c.in_ok-area_numbers.ensures n ∙ ap (λ (es : List FileEntry). index_of n (file_names (map read_file es))) c.items.ensures in
     c.in_ok-list.ensures.read
     ∙ ap (λ (ss : List Select). channels_by files areas ss) c.items-2.ensures
     ∙ all-numbered files areas (externals c.args.files.now) (map read_file c.args.program.now.files) c.in_ok-file_numbers.ensures fds c.args.program.now.selects

@@ -1,4 +1,4 @@
-use Rattle.std.proofs.Common.{ap, sym, ◌∙◌, Some}
+use Rattle.std.proofs.Common.{ap, ◌∙◌}
 use Rattle.program_channels.proofs.Found.{chosen, placed}
 use Rattle.program_channels.proofs.channels.Channels.at_area.Goals as goal
 

@@ -1,4 +1,4 @@
-use Rattle.std.proofs.Common.{ap, sym, ◌∙◌}
+use Rattle.std.proofs.Common.{ap, ◌∙◌}
 use Rattle.program_channels.proofs.Found.{chosen, named}
 use Rattle.program_channels.proofs.channels.Channels.find.Goals as goal
 

@@ -1,4 +1,4 @@
-use Rattle.std.proofs.Common.{◌≡◌, ◌+◌, ℕ, List, Option, length, map, ap, sym, ◌∙◌, arith}
+use Rattle.std.proofs.Common.{◌≡◌, ◌+◌, ℕ, List, Option, length, map, ap, ◌∙◌, arith}
 use Rattle.tree_reading.specs.Reading.{read_file}
 use Rattle.program_meaning.specs.Portfolio.{index_of, file_names}
 use Rattle.program_channels.specs.Numbers.{number_or, numbers_of_entries}

@@ -1,4 +1,4 @@
-use Rattle.std.proofs.Common.{◌≡◌, ◌+◌, ℕ, List, Option, length, ap, sym, ◌∙◌, arith}
+use Rattle.std.proofs.Common.{◌≡◌, ◌+◌, ℕ, List, Option, length, ap, ◌∙◌, arith}
 use Rattle.layout_reading.specs.Reading.{externals}
 use Rattle.program_meaning.specs.Portfolio.{index_of}
 use Rattle.program_channels.specs.Numbers.{number_or, numbers_of_files}
