@@ -2,7 +2,7 @@ ghost use Rattle.std.specs.Prelude.{false, IfOk, IfErr};
 ghost use Rattle.layout_reading.specs.Reading.{read_span, first_area};
 ghost use Rattle.program_channels.specs.Channel.{read_channel};
 ghost use Rattle.program_channels.specs.Channels.{HasRecord};
-ghost use Rattle.program_meaning.specs.Files.{open_file, close_file};
+ghost use Rattle.program_meaning.specs.Files as files;
 ghost use Rattle.program_meaning.specs.Step as meant;
 ghost use Rattle.program_meaning.specs.Step.{disk_of};
 ghost use Rattle.seq_files.specs.Disks.{read_mode};
@@ -12,7 +12,10 @@ ghost use Rattle.tree_reading.specs.Reading.{place_if, operand_if};
 ghost use Rattle.file_statements.specs.Calls.{Tells, Breaks};
 ghost use Rattle.file_statements.specs.Units.{IsUnitOf, layout_of};
 
+use crate::done::{close_file, open_file, read_file, write_file};
 use crate::fault::StepFault;
+use crate::moved::{move_from, move_into};
+use crate::told::tell;
 use crate::unit::RunUnit;
 use cobol_syntax::{Mode, Operand, Place};
 use program_channels::Channel;
@@ -30,13 +33,13 @@ pub fn open(
     requires unit { IsUnitOf (layout_of unit.old) unit.old }
     requires channel { HasRecord (layout_of unit.old) channel }
     ensures ok { IfOk result (Tells (layout_of unit.old) unit.old unit.new
-        (λ p day w. meant.call p day w (read_channel channel.entry) (open_file (disk_of w (read_channel channel.entry)) (read_mode mode)) false)) }
+        (λ p day w. meant.call p day w (read_channel channel.entry) (files.open_file (disk_of w (read_channel channel.entry)) (read_mode mode)) false)) }
     ensures err { IfErr result (Breaks (layout_of unit.old) unit.old unit.new
-        (λ p day w. meant.call p day w (read_channel channel.entry) (open_file (disk_of w (read_channel channel.entry)) (read_mode mode)) false)) }
+        (λ p day w. meant.call p day w (read_channel channel.entry) (files.open_file (disk_of w (read_channel channel.entry)) (read_mode mode)) false)) }
     ensures unit { IsUnitOf (layout_of unit.old) unit.new }
 {
-    let _channel = channel;
-    Err(StepFault::Memory)
+    let status = open_file(unit, channel, mode)?;
+    tell(alloc, unit, channel.status, false, status)
 }
 
 /// CLOSE of a file, with its status item.
@@ -48,13 +51,13 @@ pub fn close(
     requires unit { IsUnitOf (layout_of unit.old) unit.old }
     requires channel { HasRecord (layout_of unit.old) channel }
     ensures ok { IfOk result (Tells (layout_of unit.old) unit.old unit.new
-        (λ p day w. meant.call p day w (read_channel channel.entry) (close_file (disk_of w (read_channel channel.entry))) false)) }
+        (λ p day w. meant.call p day w (read_channel channel.entry) (files.close_file (disk_of w (read_channel channel.entry))) false)) }
     ensures err { IfErr result (Breaks (layout_of unit.old) unit.old unit.new
-        (λ p day w. meant.call p day w (read_channel channel.entry) (close_file (disk_of w (read_channel channel.entry))) false)) }
+        (λ p day w. meant.call p day w (read_channel channel.entry) (files.close_file (disk_of w (read_channel channel.entry))) false)) }
     ensures unit { IsUnitOf (layout_of unit.old) unit.new }
 {
-    let _channel = channel;
-    Err(StepFault::Memory)
+    let status = close_file(unit, channel)?;
+    tell(alloc, unit, channel.status, false, status)
 }
 
 /// READ of the next record: the file's part, the record area, the status item, and then INTO. `end` says that there is an
@@ -74,9 +77,9 @@ pub fn read(
         (λ p day w. meant.read_record p day w (place_if into.now) end (read_channel channel.entry))) }
     ensures unit { IsUnitOf (layout_of unit.old) unit.new }
 {
-    let _channel = channel;
-    let _into = into;
-    Err(StepFault::Memory)
+    let status = read_file(alloc, unit, channel)?;
+    let told = tell(alloc, unit, channel.status, end, status)?;
+    move_into(alloc, unit, channel, into, told)
 }
 
 /// WRITE of a record that has this span: first FROM, then the file's part, then the status item.
@@ -98,7 +101,7 @@ pub fn write(
             (meant.from_operand p day w (operand_if from.now) (read_span (first_area (layout_of unit.old).areas) span)))) }
     ensures unit { IsUnitOf (layout_of unit.old) unit.new }
 {
-    let _channel = channel;
-    let _from = from;
-    Err(StepFault::Memory)
+    move_from(alloc, unit, from, span)?;
+    let status = write_file(unit, channel, span)?;
+    tell(alloc, unit, channel.status, false, status)
 }

@@ -3,8 +3,13 @@
 #![tactic(auto)]
 
 mod calls;
+mod done;
 mod fault;
+mod moved;
+mod told;
 mod unit;
+#[cfg(test)]
+mod tests;
 
 pub use calls::{close, open, read, write};
 pub use fault::StepFault;
