@@ -1,23 +1,30 @@
 -- What a file statement did, from its parts.
-use Rattle.std.proofs.Common.{◌≡◌, ℕ, Bool, List, Option, Some, None, Result, Ok, Err, IfOk, IfErr, OnOk, refl, sym, ap, ap₂, ◌∙◌, subst}
+use Rattle.std.proofs.Common.{◌≡◌, ℕ, Bool, List, [], Option, Some, None, Result, Ok, Err, IfOk, IfErr, length, slice_index_or, refl, sym, ap, ap₂, ◌∙◌, subst}
 use Rattle.cobol_syntax.specs.declared.program.Program as tree
 use Rattle.data_layout.specs.declared.item.Layout.{Layout}
 use Rattle.data_layout.specs.declared.portfolio.FileUse.{FileUse}
-use Rattle.layout_reading.specs.Reading.{read_program, read_layout}
+use Rattle.layout_reading.specs.Reading.{read_program, read_layout, read_span}
+use Rattle.program_channels.specs.Channel.{read_channel}
+use Rattle.program_channels.specs.Channels.{HasRecord}
+use Rattle.program_channels.specs.declared.channel.Channel.{Channel}
 use Rattle.program_meaning.specs.Answer as answer
 use Rattle.program_meaning.specs.Answer.{Answer}
-use Rattle.program_meaning.specs.Files.{Disk, Done}
+use Rattle.program_meaning.specs.Files.{Done}
 use Rattle.program_meaning.specs.Layout as meant
 use Rattle.program_meaning.specs.State as state
 use Rattle.program_meaning.specs.State.{Program, Shown, World}
-use Rattle.program_meaning.specs.Step.{Calendar, Called, Told, Broken, stored_by, told, call, into_place}
-use Rattle.program_meaning.specs.Storage.{Storage}
+use Rattle.program_meaning.specs.Step.{Calendar, Called, Broken, stored_by, told, call, into_place, record_span}
+use Rattle.program_meaning.specs.Moves.{move_group}
+use Rattle.program_meaning.specs.Storage.{Storage, read}
 use Rattle.program_meaning.specs.Tree.{Place}
 use Rattle.place_table.specs.Tables.{Gave, Failed}
+use Rattle.place_table.specs.declared.places.Places.{Places}
 use Rattle.seq_files.specs.Codes.{code}
 use Rattle.seq_files.specs.Disks.{disks}
 use Rattle.seq_files.specs.declared.status.Status.{Status}
-use Rattle.storage_places.specs.Held.{held}
+use Rattle.seq_files.specs.declared.status.Status.TheVariants as status
+use Rattle.storage_places.specs.Held.{held, first}
+use Rattle.storage_places.specs.declared.storage.Storage as held_by
 use Rattle.storage_places.specs.declared.fault.RunFault.{RunFault}
 use Rattle.storage_places.specs.declared.fault.RunFault.TheVariants as run
 use Rattle.file_statements.specs.declared.fault.StepFault.{StepFault}
@@ -90,26 +97,60 @@ into-broken layout c None e w = refl
 into-broken layout c (Some p) e w = refl
 
 -- a change of storage alone
-pub tells-stored : (layout : Layout) (old new : RunUnit) (s : Status) (f : meant.Layout → Storage → Answer Storage) → disks new.store ≡ disks old.store
-    → Gave layout (λ (l : meant.Layout). f l (held old.storage)) (held new.storage) → Tells layout old new (λ p day w. stored_by (code s) w (f p.layout w.storage)) s
-tells-stored layout old new s f same gave files program day shown =
+pub tells-stored : (layout : Layout) (old : RunUnit) (places : Places) (storage : held_by.Storage) (s : Status) (f : meant.Layout → Storage → Answer Storage)
+    → Gave layout (λ (l : meant.Layout). f l (held old.storage)) (held storage)
+    → Tells layout old (record { places = places; storage = storage; store = old.store }) (λ p day w. stored_by (code s) w (f p.layout w.storage)) s
+tells-stored layout old places storage s f gave files program day shown =
     ap (λ (a : Answer Storage). stored_by (code s) (world_of old shown) a) (gave program)
-    ∙ ap (λ (ds : List Disk). Told (code s) (record { storage = held new.storage; files = ds; shown = shown })) (sym same)
 
-same-world : (old new : RunUnit) (shown : List Shown) → disks new.store ≡ disks old.store → held new.storage ≡ held old.storage → world_of old shown ≡ world_of new shown
-same-world old new shown same stays = ap₂ (λ (st : Storage) (ds : List Disk). record { storage = st; files = ds; shown = shown }) (sym stays) (sym same)
+breaks-by-stored : (layout : Layout) (old : RunUnit) (places : Places) (storage : held_by.Storage) (n : ℕ) (f : meant.Layout → Storage → Answer Storage) (e : answer.Fault)
+    → held storage ≡ held old.storage → ((program : tree.Program) → f (read_layout program layout) (held old.storage) ≡ answer.Fails e)
+    → BreaksBy layout old (record { places = places; storage = storage; store = old.store }) (λ p day w. stored_by n w (f p.layout w.storage)) e
+breaks-by-stored layout old places storage n f e stays fails files program day shown =
+    ap (λ (a : Answer Storage). stored_by n (world_of old shown) a) (fails program)
+    ∙ ap (λ (st : Storage). Broken e (record { storage = st; files = disks old.store; shown = shown })) (sym stays)
 
-breaks-by-stored : (layout : Layout) (old new : RunUnit) (n : ℕ) (f : meant.Layout → Storage → Answer Storage) (e : answer.Fault) → disks new.store ≡ disks old.store
-    → held new.storage ≡ held old.storage → ((program : tree.Program) → f (read_layout program layout) (held old.storage) ≡ answer.Fails e)
-    → BreaksBy layout old new (λ p day w. stored_by n w (f p.layout w.storage)) e
-breaks-by-stored layout old new n f e same stays fails files program day shown =
-    ap (λ (a : Answer Storage). stored_by n (world_of old shown) a) (fails program) ∙ ap (λ (w : World). Broken e w) (same-world old new shown same stays)
+breaks-kept : (layout : Layout) (old : RunUnit) (places : Places) (storage : held_by.Storage) (n : ℕ) (f : meant.Layout → Storage → Answer Storage) (e : RunFault)
+    → held storage ≡ held old.storage → Failed layout (λ (l : meant.Layout). f l (held old.storage)) e
+    → Breaks layout old (record { places = places; storage = storage; store = old.store }) (λ p day w. stored_by n w (f p.layout w.storage)) (step_fault e)
+breaks-kept layout old places storage n f run.Data stays fails = breaks-by-stored layout old places storage n f answer.Data stays fails
+breaks-kept layout old places storage n f run.Range stays fails = breaks-by-stored layout old places storage n f answer.Range stays fails
+breaks-kept layout old places storage n f run.Zero stays fails = breaks-by-stored layout old places storage n f answer.Zero stays fails
+breaks-kept layout old places storage n f run.Wide stays fails = breaks-by-stored layout old places storage n f answer.Wide stays fails
+breaks-kept layout old places storage n f run.Memory stays fails = record {}
 
-pub breaks-stored : (layout : Layout) (old new : RunUnit) (n : ℕ) (f : meant.Layout → Storage → Answer Storage) (e : RunFault) → disks new.store ≡ disks old.store
-    → held new.storage ≡ held old.storage → Failed layout (λ (l : meant.Layout). f l (held old.storage)) e
-    → Breaks layout old new (λ p day w. stored_by n w (f p.layout w.storage)) (step_fault e)
-breaks-stored layout old new n f run.Data same stays fails = breaks-by-stored layout old new n f answer.Data same stays fails
-breaks-stored layout old new n f run.Range same stays fails = breaks-by-stored layout old new n f answer.Range same stays fails
-breaks-stored layout old new n f run.Zero same stays fails = breaks-by-stored layout old new n f answer.Zero same stays fails
-breaks-stored layout old new n f run.Wide same stays fails = breaks-by-stored layout old new n f answer.Wide same stays fails
-breaks-stored layout old new n f run.Memory same stays fails = record {}
+-- or its fault, after which the storage is as it was
+pub breaks-stored : (layout : Layout) (old : RunUnit) (places : Places) (storage : held_by.Storage) (n : ℕ) (f : meant.Layout → Storage → Answer Storage) (e : RunFault) (met : StepFault)
+    → met ≡ step_fault e → held storage ≡ held old.storage → Failed layout (λ (l : meant.Layout). f l (held old.storage)) e
+    → Breaks layout old (record { places = places; storage = storage; store = old.store }) (λ p day w. stored_by n w (f p.layout w.storage)) met
+breaks-stored layout old places storage n f e met is stays fails =
+    subst (λ (x : StepFault). Breaks layout old (record { places = places; storage = storage; store = old.store }) (λ p day w. stored_by n w (f p.layout w.storage)) x) (sym is)
+    (breaks-kept layout old places storage n f e stays fails)
+
+-- the whole record area, as INTO takes it
+area_of : Channel → Storage → List ℕ
+area_of c st = read st (record { area = c.area; start = 0; count = length (slice_index_or st c.area []) })
+
+whole-area : (layout : Layout) (old : RunUnit) (c : Channel) (bytes : List ℕ) → IsUnitOf layout old → HasRecord layout c
+    → bytes ≡ read (held old.storage) (read_span (first old.storage) c.span) → bytes ≡ area_of c (held old.storage)
+whole-area layout old c bytes is has copy =
+    copy
+    ∙ ap (λ (n : ℕ). read (held old.storage) (read_span n c.span)) is.storage.first
+    ∙ ap (λ (s : meant.Span). read (held old.storage) s) (sym (has.meant (world_of old []) is.storage.lengths))
+
+pub tells-into : (layout : Layout) (old : RunUnit) (places : Places) (storage : held_by.Storage) (c : Channel) (place : Place) (bytes : List ℕ) → IsUnitOf layout old → HasRecord layout c
+    → bytes ≡ read (held old.storage) (read_span (first old.storage) c.span) → Gave layout (λ (l : meant.Layout). move_group l (held old.storage) bytes place) (held storage)
+    → Tells layout old (record { places = places; storage = storage; store = old.store })
+    (λ p day w. stored_by 0 w (move_group p.layout w.storage (read w.storage (record_span w (read_channel c))) place)) status.S00
+tells-into layout old places storage c place bytes is has copy gave =
+    tells-stored layout old places storage status.S00 (λ (l : meant.Layout) (st : Storage). move_group l st (area_of c st) place)
+    (subst (λ (bs : List ℕ). Gave layout (λ (l : meant.Layout). move_group l (held old.storage) bs place) (held storage)) (whole-area layout old c bytes is has copy) gave)
+
+pub breaks-into : (layout : Layout) (old : RunUnit) (places : Places) (storage : held_by.Storage) (c : Channel) (place : Place) (bytes : List ℕ) (e : RunFault) (met : StepFault) → IsUnitOf layout old
+    → HasRecord layout c → bytes ≡ read (held old.storage) (read_span (first old.storage) c.span) → met ≡ step_fault e → held storage ≡ held old.storage
+    → Failed layout (λ (l : meant.Layout). move_group l (held old.storage) bytes place) e
+    → Breaks layout old (record { places = places; storage = storage; store = old.store })
+    (λ p day w. stored_by 0 w (move_group p.layout w.storage (read w.storage (record_span w (read_channel c))) place)) met
+breaks-into layout old places storage c place bytes e met is has copy same stays fails =
+    breaks-stored layout old places storage 0 (λ (l : meant.Layout) (st : Storage). move_group l st (area_of c st) place) e met same stays
+    (subst (λ (bs : List ℕ). Failed layout (λ (l : meant.Layout). move_group l (held old.storage) bs place) e) (whole-area layout old c bytes is has copy) fails)

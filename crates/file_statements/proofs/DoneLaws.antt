@@ -57,10 +57,10 @@ done-none c d old new s got status disk storage = record {
 }
 
 -- bytes at the same place
-same-place : (store : Storage) (span : Span) (area : ℕ) (record' : List ℕ) → span.area ≡ area → span.start ≡ 0
-    → write store span record' ≡ slice_set store area (with_part (slice_index_or store area []) 0 record')
-same-place store span area record' at start =
-    ap₂ (λ (a o : ℕ). slice_set store a (with_part (slice_index_or store a []) o record')) at start
+same-place : (store : Storage) (span : Span) (area : ℕ) (bs : List ℕ) → span.area ≡ area → span.start ≡ 0
+    → write store span bs ≡ slice_set store area (with_part (slice_index_or store area []) 0 bs)
+same-place store span area bs at start =
+    ap₂ (λ (a o : ℕ). slice_set store a (with_part (slice_index_or store a []) o bs)) at start
 
 -- the record that was read, if one was, stands at the start of its area
 read-by-put : (c : state.Channel) (w : World) (span : Span) (before : List ℕ) (d : Disk) (o : Opening) → span.area ≡ c.area → span.start ≡ 0

@@ -13,7 +13,7 @@ use Rattle.file_statements.specs.Units.{world_of}
 
 -- at 00 the record that was read stands in its span
 abbrev pub recorded : Status → Storage → Span → List ℕ → Storage
-recorded s store span record = cond (code s == 0) (write store span record) store
+recorded s store span bs = cond (code s == 0) (write store span bs) store
 
 -- the call was done, with this status: the file is as after it, the record that was read stands in its area, and all
 -- else is as it was

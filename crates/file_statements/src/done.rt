@@ -96,15 +96,15 @@ fn record_span(unit: &RunUnit<'_>, channel: Channel<'_>) -> Result<Span, Memory>
 }
 
 /// Sets the record that was read.
-fn put_record(storage: &mut Storage, span: Span, record: &[u8], status: Status)
+fn put_record(storage: &mut Storage, span: Span, row: &[u8], status: Status)
     requires within { IsWithin (first storage.old) (lengths (held storage.old)) span }
-    requires length { length record.now ≡ span.length }
-    ensures held { held storage.new ≡ recorded status (held storage.old) (read_span (first storage.old) span) record.now }
+    requires length { length row.now ≡ span.length }
+    ensures held { held storage.new ≡ recorded status (held storage.old) (read_span (first storage.old) span) row.now }
     ensures first { first storage.new ≡ first storage.old }
     ensures lengths { lengths (held storage.new) ≡ lengths (held storage.old) }
 {
     if status.code() == 0 {
-        storage.set(span, record);
+        storage.set(span, row);
     }
 }
 

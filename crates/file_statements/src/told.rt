@@ -27,9 +27,9 @@ pub(crate) fn tell(
 ) -> Result<Status, StepFault>
     requires unit { IsUnitOf (layout_of unit.old) unit.old }
     ensures ok { IfOk result (Tells (layout_of unit.old) unit.old unit.new
-        (λ p day w. meant.told p.layout (status_of item) end (code status) w)) }
+        (λ p day w. meant.told p.layout (status_of item.entry) end (code status) w)) }
     ensures err { IfErr result (Breaks (layout_of unit.old) unit.old unit.new
-        (λ p day w. meant.told p.layout (status_of item) end (code status) w)) }
+        (λ p day w. meant.told p.layout (status_of item.entry) end (code status) w)) }
     ensures unit { IsUnitOf (layout_of unit.old) unit.new }
 {
     match item {
