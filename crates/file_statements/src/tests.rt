@@ -1,11 +1,13 @@
-ghost use Rattle.std.specs.Prelude.{◌≡◌, IfOk};
+ghost use Rattle.std.specs.Prelude.{◌≡◌, ℕ, IfOk};
 ghost use Rattle.data_layout.specs.Index.{IsReady};
 ghost use Rattle.layout_reading.specs.Numbered.{AreNumbered};
 ghost use Rattle.layout_reading.specs.Reading.{first_area};
 ghost use Rattle.program_channels.specs.Channels.{HasRecord};
 ghost use Rattle.storage_places.specs.Fits.{LayoutFits, area_lengths};
-ghost use Rattle.storage_places.specs.Held.{IsWithin};
-ghost use Rattle.file_statements.specs.Units.{IsUnitOf, layout_of};
+ghost use Rattle.program_meaning.specs.Files.{Closed, disk_at};
+ghost use Rattle.seq_files.specs.Disks.{disks};
+ghost use Rattle.storage_places.specs.Held.{held, first, lengths, IsWithin};
+ghost use Rattle.file_statements.specs.Units.{IsUnitOf};
 
 use super::*;
 use cobol_syntax::{Entry, FileEntry, Mode, Operand, Part, Place, Program, Select, Sub, Usage};
@@ -157,15 +159,28 @@ fn file_use(alloc: Global, file: u8) -> Result<FileUse, Memory>
 
 /// A store of the files A and B, of which one holds these bytes; the other isn't there.
 fn store_of(alloc: Global, file: u32, held: Option<&[u8]>) -> Result<Store, Memory> {
-    let files = [file_use(alloc, b'A')?, file_use(alloc, b'B')?];
-    let mut store = Store::new(alloc, &files)?;
+    let mut store = missing_files(alloc)?;
     match held {
-        Some(bytes) => match store.set(file, bytes)? {
-            Ok(()) => Ok(store),
-            Err(_) => Err(Memory),
-        },
+        Some(bytes) => {
+            if store.record_length(file).is_none() {
+                return Err(Memory);
+            }
+            match store.set(file, bytes)? {
+                Ok(()) => Ok(store),
+                Err(_) => Err(Memory),
+            }
+        }
         None => Ok(store),
     }
+}
+
+/// A store of two files that aren't there.
+fn missing_files(alloc: Global) -> Result<Store, Memory>
+    ensures { IfOk result (λ store. (file : ℕ) → (disk_at (disks store) file).opening ≡ Closed) }
+{
+    let files = [file_use(alloc, b'A')?, file_use(alloc, b'B')?];
+    let store = Store::new(alloc, &files)?;
+    Ok(store)
 }
 
 /// A statement of a case, or none. READ has INTO, if its item has a name, and whether there is an AT END; WRITE has its
@@ -198,45 +213,92 @@ fn from_of(alloc: Global, text: Option<[u8; 2]>) -> Result<Option<Operand>, Memo
 
 fn read_into(
     alloc: Global,
+    layout: &Layout,
     unit: &mut RunUnit<'_>,
     channel: Channel<'_>,
     into: Item,
     end: bool,
 ) -> Result<Status, StepFault>
-    requires unit { IsUnitOf (layout_of unit.old) unit.old }
-    requires channel { HasRecord (layout_of unit.old) channel }
-    ensures unit { IsUnitOf (layout_of unit.old) unit.new }
+    requires unit { IsUnitOf layout.now unit.old }
+    requires channel { HasRecord layout.now channel }
+    ensures unit { IsUnitOf layout.now unit.new }
 {
+    let _layout = layout;
     let into = into_of(alloc, into)?;
-    let status = read(alloc, unit, channel, &into, end)?;
-    Ok(status)
+    read(alloc, unit, channel, &into, end)
 }
 
 fn write_from(
     alloc: Global,
+    layout: &Layout,
     unit: &mut RunUnit<'_>,
     channel: Channel<'_>,
     name: u8,
     from: Option<[u8; 2]>,
 ) -> Result<Status, StepFault>
-    requires unit { IsUnitOf (layout_of unit.old) unit.old }
-    requires channel { HasRecord (layout_of unit.old) channel }
-    ensures unit { IsUnitOf (layout_of unit.old) unit.new }
+    requires unit { IsUnitOf layout.now unit.old }
+    requires channel { HasRecord layout.now channel }
+    ensures unit { IsUnitOf layout.now unit.new }
 {
     let from = from_of(alloc, from)?;
     let item = place_of(alloc, whole(name))?;
-    let span = span_of(unit, &item)?;
-    let status = write(alloc, unit, channel, span, &from)?;
-    Ok(status)
+    let span = span_of(layout, unit, &item)?;
+    write_at(alloc, layout, unit, channel, span, &from)
+}
+
+fn write_at(
+    alloc: Global,
+    layout: &Layout,
+    unit: &mut RunUnit<'_>,
+    channel: Channel<'_>,
+    span: Span,
+    from: &Option<Operand>,
+) -> Result<Status, StepFault>
+    requires unit { IsUnitOf layout.now unit.old }
+    requires channel { HasRecord layout.now channel }
+    requires span { IsWithin (first_area layout.now.areas) (area_lengths layout.now) span }
+    ensures unit { IsUnitOf layout.now unit.new }
+{
+    let _layout = layout;
+    write(alloc, unit, channel, span, from)
+}
+
+fn open_as(
+    alloc: Global,
+    layout: &Layout,
+    unit: &mut RunUnit<'_>,
+    channel: Channel<'_>,
+    mode: Mode,
+) -> Result<Status, StepFault>
+    requires unit { IsUnitOf layout.now unit.old }
+    requires channel { HasRecord layout.now channel }
+    ensures unit { IsUnitOf layout.now unit.new }
+{
+    let _layout = layout;
+    open(alloc, unit, channel, mode)
+}
+
+fn shut(
+    alloc: Global,
+    layout: &Layout,
+    unit: &mut RunUnit<'_>,
+    channel: Channel<'_>,
+) -> Result<Status, StepFault>
+    requires unit { IsUnitOf layout.now unit.old }
+    requires channel { HasRecord layout.now channel }
+    ensures unit { IsUnitOf layout.now unit.new }
+{
+    let _layout = layout;
+    close(alloc, unit, channel)
 }
 
 /// Where a place is.
-fn span_of(unit: &mut RunUnit<'_>, item: &Place) -> Result<Span, StepFault>
-    requires unit { IsUnitOf (layout_of unit.old) unit.old }
-    ensures within { IfOk result (IsWithin (first_area (layout_of unit.old).areas) (area_lengths (layout_of unit.old))) }
-    ensures layout { layout_of unit.new ≡ layout_of unit.old }
-    ensures unit { IsUnitOf (layout_of unit.old) unit.new }
+fn span_of(layout: &Layout, unit: &mut RunUnit<'_>, item: &Place) -> Result<Span, StepFault>
+    requires unit { IsUnitOf layout.now unit.old }
+    ensures within { IfOk result (IsWithin (first_area layout.now.areas) (area_lengths layout.now)) }
+    ensures unit { IsUnitOf layout.now unit.new }
 {
+    let _layout = layout;
     match unit.places.view(&unit.storage, item) {
         Ok(view) => Ok(view.span),
         Err(_) => Err(StepFault::Memory),
@@ -245,64 +307,81 @@ fn span_of(unit: &mut RunUnit<'_>, item: &Place) -> Result<Span, StepFault>
 
 fn done(
     alloc: Global,
+    layout: &Layout,
     unit: &mut RunUnit<'_>,
     channel: Channel<'_>,
     step: Step,
 ) -> Result<Status, StepFault>
-    requires unit { IsUnitOf (layout_of unit.old) unit.old }
-    requires channel { HasRecord (layout_of unit.old) channel }
-    ensures unit { IsUnitOf (layout_of unit.old) unit.new }
+    requires unit { IsUnitOf layout.now unit.old }
+    requires channel { HasRecord layout.now channel }
+    ensures unit { IsUnitOf layout.now unit.new }
 {
     match step {
         Step::Nothing => Ok(Status::S00),
-        Step::Open(mode) => open(alloc, unit, channel, mode),
-        Step::Close => close(alloc, unit, channel),
-        Step::Read(into, end) => read_into(alloc, unit, channel, into, end),
-        Step::Write(name, from) => write_from(alloc, unit, channel, name, from),
+        Step::Open(mode) => open_as(alloc, layout, unit, channel, mode),
+        Step::Close => shut(alloc, layout, unit, channel),
+        Step::Read(into, end) => read_into(alloc, layout, unit, channel, into, end),
+        Step::Write(name, from) => write_from(alloc, layout, unit, channel, name, from),
     }
 }
 
 /// The status of the last of three statements, or the first fault.
 fn all_done(
     alloc: Global,
+    layout: &Layout,
     unit: &mut RunUnit<'_>,
     channel: Channel<'_>,
     steps: [Step; 3],
 ) -> Result<Status, StepFault>
-    requires unit { IsUnitOf (layout_of unit.old) unit.old }
-    requires channel { HasRecord (layout_of unit.old) channel }
-    ensures unit { IsUnitOf (layout_of unit.old) unit.new }
+    requires unit { IsUnitOf layout.now unit.old }
+    requires channel { HasRecord layout.now channel }
+    ensures unit { IsUnitOf layout.now unit.new }
 {
-    done(alloc, unit, channel, steps[0])?;
-    done(alloc, unit, channel, steps[1])?;
-    let status = done(alloc, unit, channel, steps[2])?;
+    done(alloc, layout, unit, channel, steps[0])?;
+    done(alloc, layout, unit, channel, steps[1])?;
+    let status = done(alloc, layout, unit, channel, steps[2])?;
     Ok(status)
 }
 
 /// Sets the bytes of an item, if they are as many.
 fn put(
     alloc: Global,
+    layout: &Layout,
     unit: &mut RunUnit<'_>,
     name: u8,
     bytes: &[u8],
 ) -> Result<(), StepFault>
-    requires unit { IsUnitOf (layout_of unit.old) unit.old }
-    ensures unit { IsUnitOf (layout_of unit.old) unit.new }
+    requires unit { IsUnitOf layout.now unit.old }
+    ensures unit { IsUnitOf layout.now unit.new }
 {
     let item = place_of(alloc, whole(name))?;
-    let span = span_of(unit, &item)?;
-    if span.length as usize == bytes.len() {
-        unit.storage.set(span, bytes);
-    }
+    let span = span_of(layout, unit, &item)?;
+    set_if(&mut unit.storage, span, bytes);
     Ok(())
 }
 
+/// Sets the bytes of a span of the program, if they are as many.
+fn set_if(storage: &mut Storage, span: Span, bytes: &[u8])
+    ensures first { first storage.new ≡ first storage.old }
+    ensures lengths { lengths (held storage.new) ≡ lengths (held storage.old) }
+{
+    if storage.bytes(span).is_none() || span.length as usize != bytes.len() {
+        return;
+    }
+    storage.set(span, bytes);
+}
+
 /// The bytes of an item.
-fn held_at(alloc: Global, unit: &mut RunUnit<'_>, name: u8) -> Result<Bytes, StepFault>
-    requires unit { IsUnitOf (layout_of unit.old) unit.old }
+fn held_at(
+    alloc: Global,
+    layout: &Layout,
+    unit: &mut RunUnit<'_>,
+    name: u8,
+) -> Result<Bytes, StepFault>
+    requires unit { IsUnitOf layout.now unit.old }
 {
     let item = place_of(alloc, whole(name))?;
-    let span = span_of(unit, &item)?;
+    let span = span_of(layout, unit, &item)?;
     match unit.storage.bytes(span) {
         Some(bytes) => Ok(bytes_of(alloc, bytes)?),
         None => Err(StepFault::Memory),
@@ -339,21 +418,38 @@ fn content(alloc: Global, store: &Store, file: u32) -> Result<Bytes, Memory> {
 /// Runs a case with these bytes in W and in the records.
 fn run_case(
     alloc: Global,
+    layout: &Layout,
     unit: &mut RunUnit<'_>,
     channel: Channel<'_>,
     steps: [Step; 3],
     item: u8,
 ) -> Result<Ended, StepFault>
-    requires unit { IsUnitOf (layout_of unit.old) unit.old }
-    requires channel { HasRecord (layout_of unit.old) channel }
+    requires unit { IsUnitOf layout.now unit.old }
+    requires channel { HasRecord layout.now channel }
 {
-    put(alloc, unit, b'W', b"VWXYZ")?;
-    put(alloc, unit, b'L', b"abc")?;
-    put(alloc, unit, b'P', b"abc")?;
-    let status = all_done(alloc, unit, channel, steps);
-    let item = held_at(alloc, unit, item)?;
+    put(alloc, layout, unit, b'W', b"VWXYZ")?;
+    put(alloc, layout, unit, b'L', b"abc")?;
+    put(alloc, layout, unit, b'P', b"abc")?;
+    let status = all_done(alloc, layout, unit, channel, steps);
+    let item = held_at(alloc, layout, unit, item)?;
     let file = content(alloc, &unit.store, channel.file)?;
     Ok(Ended { status, item, file })
+}
+
+/// The unit of a program with this layout.
+fn unit_of<'a>(alloc: Global, layout: &'a Layout, store: Store) -> Result<RunUnit<'a>, Memory>
+    requires ready { IsReady layout.now }
+    requires numbered { AreNumbered (first_area layout.now.areas) layout.now.areas }
+    requires fits { LayoutFits layout.now }
+    ensures unit { IfOk result (IsUnitOf layout.now) }
+{
+    let storage = Storage::spaces(alloc, layout)?;
+    let places = Places::of(alloc, layout);
+    Ok(RunUnit {
+        places,
+        storage,
+        store,
+    })
 }
 
 /// Runs a case for one of the two files, which holds these bytes or isn't there.
@@ -374,12 +470,9 @@ fn run_with(
     let channels = Channels::of(alloc, &files, program, layout)?;
     match channels.find(&[file]) {
         Some(channel) => {
-            let mut unit = RunUnit {
-                places: Places::of(alloc, layout),
-                storage: Storage::spaces(alloc, layout)?,
-                store: store_of(alloc, channel.file, held)?,
-            };
-            let ended = run_case(alloc, &mut unit, channel, steps, item)?;
+            let store = store_of(alloc, channel.file, held)?;
+            let mut unit = unit_of(alloc, layout, store)?;
+            let ended = run_case(alloc, layout, &mut unit, channel, steps, item)?;
             Ok(ended)
         }
         None => Err(StepFault::Memory),
