@@ -18,8 +18,7 @@ use std::alloc::Global;
 use storage_places::Storage;
 use y2k_base::{Memory, Span};
 
-/// OPEN without its status item. A file that isn't there is want of memory, here and in the other three; a sound
-/// portfolio has none.
+/// OPEN without its status item. A number past those of the store is want of memory, here and in the other three.
 pub(crate) fn open_file(
     unit: &mut RunUnit<'_>,
     channel: Channel<'_>,
