@@ -36,9 +36,6 @@ use Rattle.file_statements.specs.Done.{HasDone}
 use Rattle.file_statements.specs.Faults.{step_fault}
 use Rattle.file_statements.specs.Units.{IsUnitOf, layout_of, world_of}
 
-pub own-unit : (layout : Layout) (unit : RunUnit) → IsUnitOf layout unit → IsUnitOf (layout_of unit) unit
-own-unit layout unit is = subst (λ (l : Layout). IsUnitOf l unit) (sym is.places) is
-
 pub unit-from : (layout : Layout) (mid new : RunUnit) → IsUnitOf layout mid → IsUnitOf (layout_of mid) new → IsUnitOf layout new
 unit-from layout mid new is then' = subst (λ (l : Layout). IsUnitOf l new) is.places then'
 
@@ -46,7 +43,7 @@ unit-from layout mid new is then' = subst (λ (l : Layout). IsUnitOf l new) is.p
 abbrev pub Links : Layout → RunUnit → RunUnit → (Program → Calendar → World → Called) → (Program → Calendar → World → Called) → Type 0
 Links layout old mid whole rest =
     (files : List FileUse) (program : tree.Program) (day : Calendar) (shown : List Shown) →
-        whole (read_program files program layout) day (world_of old shown) ≡ rest (read_program files program layout) day (world_of mid shown)
+    whole (read_program files program layout) day (world_of old shown) ≡ rest (read_program files program layout) day (world_of mid shown)
 
 breaks-from : (layout : Layout) (old mid new : RunUnit) (whole rest : Program → Calendar → World → Called) (e : StepFault) → Links layout old mid whole rest
     → Breaks layout mid new rest e → Breaks layout old new whole e
@@ -115,7 +112,7 @@ pub read-links : (layout : Layout) (old mid told' : RunUnit) (c : state.Channel)
 read-links layout old mid told' c d end into s t is done tells = λ files program day shown.
     ap (λ (r : Called). into_place (read_layout program layout) c into r)
     (call-links layout old mid c d end s done files program day shown
-        ∙ subst (λ (l : Layout). Tells l mid told' (λ p day w. told p.layout c.status end (code s) w) t) is.places tells files program day shown)
+    ∙ subst (λ (l : Layout). Tells l mid told' (λ p day w. told p.layout c.status end (code s) w) t) is.places tells files program day shown)
 
 -- READ that its status ends
 pub read-broken : (layout : Layout) (old mid new : RunUnit) (c : state.Channel) (d : Done) (end : Bool) (into : Option Place) (s : Status) (e : StepFault) → IsUnitOf layout mid
@@ -124,7 +121,7 @@ pub read-broken : (layout : Layout) (old mid new : RunUnit) (c : state.Channel) 
 read-broken layout old mid new c d end into s e is done breaks =
     breaks-on layout old new (λ p day w. call p day w c d end) (λ p day r. into_place p.layout c into r) e (λ p day fault w. into-broken p.layout c into fault w)
     (breaks-from layout old mid new (λ p day w. call p day w c d end) (λ p day w. told p.layout c.status end (code s) w) e (call-links layout old mid c d end s done)
-        (subst (λ (l : Layout). Breaks l mid new (λ p day w. told p.layout c.status end (code s) w) e) is.places breaks))
+    (subst (λ (l : Layout). Breaks l mid new (λ p day w. told p.layout c.status end (code s) w) e) is.places breaks))
 
 -- WRITE after FROM and its own part: the status is left
 pub write-links : (layout : Layout) (old mid done' : RunUnit) (c : state.Channel) (from : Option Operand) (span : Span) (s : Status) → IsUnitOf layout mid

@@ -1,9 +1,8 @@
 -- The file's own part of a statement: what is read by READ alone, and the world after it.
-use Rattle.std.proofs.Common.{◌≡◌, ℕ, ◌==◌, ◌+◌, ◌-◌, Bool, true, false, List, [], ◌∷◌, Option, Some, None, cond, slice_set, slice_index_or, refl, sym, ap, ap₂, ◌∙◌, arith}
+use Rattle.std.proofs.Common.{◌≡◌, ℕ, ◌==◌, true, false, List, [], ◌∷◌, cond, slice_set, slice_index_or, refl, sym, ap, ap₂, ◌∙◌}
 use Rattle.byte_lists.specs.Part.{with_part}
-use Rattle.program_meaning.specs.Files.{Disk, Opening, Closed, Reading, Writing, Done, disk_at, open_file, open_by, open_closed, close_file, close_by, read_file, read_by, write_file, write_by}
+use Rattle.program_meaning.specs.Files.{Disk, Opening, Closed, Reading, Writing, disk_at, read_file, read_by}
 use Rattle.program_meaning.specs.Layout.{Span}
-use Rattle.program_meaning.specs.Tree.{Mode, Input, Output, Extend}
 use Rattle.program_meaning.specs.State as state
 use Rattle.program_meaning.specs.State.{Shown, World}
 use Rattle.program_meaning.specs.Step.{with_record, after_call}
@@ -15,46 +14,6 @@ use Rattle.storage_places.specs.Held.{held}
 use Rattle.file_statements.specs.declared.unit.RunUnit.{RunUnit}
 use Rattle.file_statements.specs.Done.{HasDone, recorded}
 use Rattle.file_statements.specs.Units.{world_of}
-
-open_closed-got : (d : Disk) (m : Mode) (rs : Option (List (List ℕ))) → (open_closed d m rs).got ≡ None
-open_closed-got d Input None = refl
-open_closed-got d Input (Some rs) = refl
-open_closed-got d Output rs = refl
-open_closed-got d Extend None = refl
-open_closed-got d Extend (Some rs) = refl
-
-open_by-got : (d : Disk) (m : Mode) (o : Opening) → (open_by d m o).got ≡ None
-open_by-got d m Closed = open_closed-got d m d.records
-open_by-got d m (Reading unread ended) = refl
-open_by-got d m Writing = refl
-
-pub open-got : (d : Disk) (m : Mode) → (open_file d m).got ≡ None
-open-got d m = open_by-got d m d.opening
-
-close_by-got : (d : Disk) (o : Opening) → (close_by d o).got ≡ None
-close_by-got d Closed = refl
-close_by-got d (Reading unread ended) = refl
-close_by-got d Writing = refl
-
-pub close-got : (d : Disk) → (close_file d).got ≡ None
-close-got d = close_by-got d d.opening
-
-write_by-got : (d : Disk) (bs : List ℕ) (o : Opening) → (write_by d bs o).got ≡ None
-write_by-got d bs Closed = refl
-write_by-got d bs (Reading unread ended) = refl
-write_by-got d bs Writing = refl
-
-pub write-got : (d : Disk) (bs : List ℕ) → (write_file d bs).got ≡ None
-write-got d bs = write_by-got d bs d.opening
-
--- a call that reads nothing
-pub done-none : (c : state.Channel) (d : Done) (old new : RunUnit) (s : Status) → d.got ≡ None → code s ≡ d.status → disks new.store ≡ slice_set (disks old.store) c.file d.disk
-    → held new.storage ≡ held old.storage → HasDone c d old new s
-done-none c d old new s got status disk storage = record {
-  status = status;
-  world = λ (shown : List Shown). ap (λ (g : Option (List ℕ)). with_record c g (after_call (world_of old shown) c d)) got
-      ∙ ap₂ (λ (st : Storage) (ds : List Disk). record { storage = st; files = ds; shown = shown }) (sym storage) (sym disk);
-}
 
 -- bytes at the same place
 same-place : (store : Storage) (span : Span) (area : ℕ) (bs : List ℕ) → span.area ≡ area → span.start ≡ 0

@@ -19,13 +19,13 @@ use Rattle.file_statements.specs.Units.{world_of}
 abbrev pub Tells : Layout → RunUnit → RunUnit → (Program → Calendar → World → Called) → Status → Type 0
 Tells layout old new meaning status =
     (files : List FileUse) (program : tree.Program) (day : Calendar) (shown : List Shown) →
-        meaning (read_program files program layout) day (world_of old shown) ≡ Told (code status) (world_of new shown)
+    meaning (read_program files program layout) day (world_of old shown) ≡ Told (code status) (world_of new shown)
 
 -- or it ends by this fault, with the world as it is now
 abbrev pub BreaksBy : Layout → RunUnit → RunUnit → (Program → Calendar → World → Called) → answer.Fault → Type 0
 BreaksBy layout old new meaning e =
     (files : List FileUse) (program : tree.Program) (day : Calendar) (shown : List Shown) →
-        meaning (read_program files program layout) day (world_of old shown) ≡ Broken e (world_of new shown)
+    meaning (read_program files program layout) day (world_of old shown) ≡ Broken e (world_of new shown)
 
 -- after want of memory nothing is said
 abbrev pub Breaks : Layout → RunUnit → RunUnit → (Program → Calendar → World → Called) → StepFault → Type 0

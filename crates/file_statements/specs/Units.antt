@@ -1,5 +1,5 @@
 -- What the statements of a running program work on, as the world of its meaning.
-use Rattle.std.specs.Prelude.{◌≡◌, ℕ, List}
+use Rattle.std.specs.Prelude.{◌≡◌, List}
 use Rattle.data_layout.specs.declared.item.Layout.{Layout}
 use Rattle.program_meaning.specs.State.{World, Shown}
 use Rattle.place_table.specs.Tables as table

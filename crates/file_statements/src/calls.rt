@@ -95,10 +95,10 @@ pub fn write(
     requires span { IsWithin (first_area (layout_of unit.old).areas) (area_lengths (layout_of unit.old)) span }
     ensures ok { IfOk result (Tells (layout_of unit.old) unit.old unit.new
         (λ p day w. meant.write_from p day (read_channel channel.entry) (read_span (first_area (layout_of unit.old).areas) span)
-            (meant.from_operand p day w (operand_if from.now) (read_span (first_area (layout_of unit.old).areas) span)))) }
+        (meant.from_operand p day w (operand_if from.now) (read_span (first_area (layout_of unit.old).areas) span)))) }
     ensures err { IfErr result (Breaks (layout_of unit.old) unit.old unit.new
         (λ p day w. meant.write_from p day (read_channel channel.entry) (read_span (first_area (layout_of unit.old).areas) span)
-            (meant.from_operand p day w (operand_if from.now) (read_span (first_area (layout_of unit.old).areas) span)))) }
+        (meant.from_operand p day w (operand_if from.now) (read_span (first_area (layout_of unit.old).areas) span)))) }
     ensures unit { IsUnitOf (layout_of unit.old) unit.new }
 {
     move_from(alloc, unit, from, span)?;

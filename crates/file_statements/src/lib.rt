@@ -7,10 +7,10 @@ mod calls;
 mod done;
 mod fault;
 mod moved;
-mod told;
-mod unit;
 #[cfg(test)]
 mod tests;
+mod told;
+mod unit;
 
 pub use calls::{close, open, read, write};
 pub use fault::StepFault;

@@ -152,13 +152,7 @@ fn move_operand(
         (λ p day w. meant.stored_by 0 w (moves.move_record p.layout w.storage (read_operand from.now) (read_span (first_area (layout_of unit.old).areas) span)))) }
     ensures unit { IsUnitOf (layout_of unit.old) unit.new }
 {
-    match move_record(
-        alloc,
-        &mut unit.places,
-        &mut unit.storage,
-        from,
-        span,
-    ) {
+    match move_record(alloc, &mut unit.places, &mut unit.storage, from, span) {
         Ok(()) => Ok(()),
         Err(fault) => Err(step_fault(fault)),
     }

@@ -493,11 +493,7 @@ fn run(
 }
 
 /// Whether a case ends so, with these bytes in an item.
-fn leaves(
-    case: &Result<Ended, StepFault>,
-    status: Result<Status, StepFault>,
-    item: &[u8],
-) -> bool {
+fn leaves(case: &Result<Ended, StepFault>, status: Result<Status, StepFault>, item: &[u8]) -> bool {
     match case {
         Ok(ended) => ended.status == status && ended.item.items() == item,
         Err(_) => false,
@@ -513,10 +509,15 @@ fn holds(case: &Result<Ended, StepFault>, bytes: &[u8]) -> bool {
 }
 
 const NOTHING: Step = Step::Nothing;
+
 const INPUT: Step = Step::Open(Mode::Input);
+
 const OUTPUT: Step = Step::Open(Mode::Output);
+
 const EXTEND: Step = Step::Open(Mode::Extend);
+
 const READ: Step = Step::Read((0, 0, 0), false);
+
 const READ_OR_END: Step = Step::Read((0, 0, 0), true);
 
 #[test]
@@ -575,14 +576,7 @@ fn a_record_goes_to_its_area_and_then_by_into(rt: HostRuntime) -> Result<(), Fai
     let outside = Step::Read((b'W', 6, 1), true);
     let good = Ok(Status::S00);
     let end = Ok(Status::S10);
-    let rows: [(
-        u8,
-        &[u8],
-        [Step; 3],
-        Result<Status, StepFault>,
-        u8,
-        &[u8],
-    ); 10] = [
+    let rows: [(u8, &[u8], [Step; 3], Result<Status, StepFault>, u8, &[u8]); 10] = [
         (b'A', b"ABC", [NOTHING, INPUT, READ], good, b'L', b"ABC"),
         (b'A', b"ABC", [NOTHING, INPUT, part], good, b'W', b"VABC "),
         (b'A', b"ABC", [INPUT, part, part], end, b'W', b"VABC "),
@@ -621,13 +615,7 @@ fn from_is_done_whatever_the_status(rt: HostRuntime) -> Result<(), Fail> {
     let short = Step::Write(b'M', Some(*b"HI"));
     let told = Step::Write(b'P', Some(*b"HI"));
     let rows: [(u8, [Step; 3], Result<Status, StepFault>, u8, &[u8]); 5] = [
-        (
-            b'A',
-            [NOTHING, OUTPUT, long],
-            Ok(Status::S00),
-            b'L',
-            b"HI ",
-        ),
+        (b'A', [NOTHING, OUTPUT, long], Ok(Status::S00), b'L', b"HI "),
         (
             b'A',
             [NOTHING, OUTPUT, short],
@@ -649,13 +637,7 @@ fn from_is_done_whatever_the_status(rt: HostRuntime) -> Result<(), Fail> {
             b'P',
             b"HI ",
         ),
-        (
-            b'B',
-            [NOTHING, NOTHING, told],
-            Ok(Status::S48),
-            b'S',
-            b"48",
-        ),
+        (b'B', [NOTHING, NOTHING, told], Ok(Status::S48), b'S', b"48"),
     ];
     for (file, steps, status, item, bytes) in rows {
         let case = run(rt.alloc(), file, None, steps, item);

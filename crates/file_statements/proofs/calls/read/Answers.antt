@@ -1,4 +1,3 @@
-use Rattle.std.proofs.Common.{◌≡◌}
 use Rattle.data_layout.specs.declared.item.Layout.{Layout}
 use Rattle.program_channels.specs.Channel.{read_channel}
 use Rattle.program_meaning.specs.Files.{Done, disk_at, read_file}
@@ -9,8 +8,7 @@ use Rattle.seq_files.specs.Codes.{code}
 use Rattle.seq_files.specs.Disks.{disks}
 use Rattle.tree_reading.specs.Reading.{place_if}
 use Rattle.file_statements.specs.Calls.{Breaks}
-use Rattle.file_statements.specs.Units.{IsUnitOf, layout_of}
-use Rattle.file_statements.specs.declared.unit.RunUnit.{RunUnit}
+use Rattle.file_statements.specs.Units.{layout_of}
 use Rattle.file_statements.proofs.CallLaws.{ok-from, err-from, unit-from, read-links, read-broken, carried}
 use Rattle.file_statements.proofs.calls.read.Goals as goal
 
@@ -21,7 +19,7 @@ returns-in_err-told-clause-err c =
     carried (Breaks layout c.args.unit.now c.tell.new.unit (λ p day w. meant.read_record p day w (place_if c.args.into.now) c.args.end channel)) c.from_residual-in_err-told.result c.in_err-told.field-0.0
     c.from_residual-in_err-told.ensures.1
     (read-broken layout c.args.unit.now c.read_file.new.unit c.tell.new.unit channel (read_file (disk_at (disks c.args.unit.now.store) c.args.channel.file)) c.args.end (place_if c.args.into.now)
-        c.in_ok-status.status c.in_err-told.field-0.0 c.read_file.ensures.unit c.in_ok-status.ensures.done c.in_err-told.ensures.err)
+    c.in_ok-status.status c.in_err-told.field-0.0 c.read_file.ensures.unit c.in_ok-status.ensures.done c.in_err-told.ensures.err)
 
 pub returns-clause-ok : goal.returns-clause-ok
 returns-clause-ok c =
@@ -32,7 +30,7 @@ returns-clause-ok c =
     (λ p day w. meant.into_place p.layout channel (place_if c.args.into.now) (Told (code c.in_ok-told.told) w)) c.move_into.result
     (unit-from layout c.read_file.new.unit c.tell.new.unit c.read_file.ensures.unit c.tell.ensures.unit)
     (read-links layout c.args.unit.now c.read_file.new.unit c.tell.new.unit channel d c.args.end (place_if c.args.into.now) c.in_ok-status.status c.in_ok-told.told c.read_file.ensures.unit c.in_ok-status.ensures.done
-        c.in_ok-told.ensures.ok)
+    c.in_ok-told.ensures.ok)
     c.move_into.ensures.ok
 
 pub returns-clause-err : goal.returns-clause-err
@@ -44,5 +42,5 @@ returns-clause-err c =
     (λ p day w. meant.into_place p.layout channel (place_if c.args.into.now) (Told (code c.in_ok-told.told) w)) c.move_into.result
     (unit-from layout c.read_file.new.unit c.tell.new.unit c.read_file.ensures.unit c.tell.ensures.unit)
     (read-links layout c.args.unit.now c.read_file.new.unit c.tell.new.unit channel d c.args.end (place_if c.args.into.now) c.in_ok-status.status c.in_ok-told.told c.read_file.ensures.unit c.in_ok-status.ensures.done
-        c.in_ok-told.ensures.ok)
+    c.in_ok-told.ensures.ok)
     c.move_into.ensures.err

@@ -16,7 +16,7 @@ returns-in_err-move_from-clause-err c =
     let layout : Layout = layout_of c.args.unit.now in
     let channel : state.Channel = read_channel c.args.channel in
     carried (Breaks layout c.args.unit.now c.move_from.new.unit
-        (λ p day w. meant.write_from p day channel (read_span (first_area layout.areas) c.args.span) (meant.from_operand p day w (operand_if c.args.from.now) (read_span (first_area layout.areas) c.args.span))))
+    (λ p day w. meant.write_from p day channel (read_span (first_area layout.areas) c.args.span) (meant.from_operand p day w (operand_if c.args.from.now) (read_span (first_area layout.areas) c.args.span))))
     c.from_residual.result c.in_err-move_from.field-0.0 c.from_residual.ensures.1
     (write-broken layout c.args.unit.now c.move_from.new.unit channel (operand_if c.args.from.now) c.args.span c.in_err-move_from.field-0.0 c.in_err-move_from.ensures.err)
 
@@ -29,7 +29,7 @@ returns-clause-ok c =
     (λ p day w. meant.told p.layout channel.status false (code c.in_ok-status.status) w) c.tell.result
     (unit-from layout c.move_from.new.unit c.write_file.new.unit c.move_from.ensures.unit c.write_file.ensures.unit)
     (write-links layout c.args.unit.now c.move_from.new.unit c.write_file.new.unit channel (operand_if c.args.from.now) c.args.span c.in_ok-status.status c.move_from.ensures.unit c.in_ok-move_from.ensures.ok
-        c.in_ok-status.ensures.done)
+    c.in_ok-status.ensures.done)
     c.tell.ensures.ok
 
 pub returns-clause-err : goal.returns-clause-err
@@ -41,5 +41,5 @@ returns-clause-err c =
     (λ p day w. meant.told p.layout channel.status false (code c.in_ok-status.status) w) c.tell.result
     (unit-from layout c.move_from.new.unit c.write_file.new.unit c.move_from.ensures.unit c.write_file.ensures.unit)
     (write-links layout c.args.unit.now c.move_from.new.unit c.write_file.new.unit channel (operand_if c.args.from.now) c.args.span c.in_ok-status.status c.move_from.ensures.unit c.in_ok-move_from.ensures.ok
-        c.in_ok-status.ensures.done)
+    c.in_ok-status.ensures.done)
     c.tell.ensures.err

@@ -12,9 +12,9 @@ use Rattle.file_statements.proofs.moved.move_into.Goals as goal
 pub returns-in-Some-clause-ok : goal.returns-in-Some-clause-ok
 returns-in-Some-clause-ok c =
     subst (λ (x : Option Place). IfOk c.move_at.result (Tells (layout_of c.args.unit.now) c.args.unit.now c.move_at.new.unit
-        (λ p day w. meant.into_place p.layout (read_channel c.args.channel) (place_if x) (Told (code c.args.status) w)))) (sym c.in-Some.is) c.move_at.ensures.ok
+    (λ p day w. meant.into_place p.layout (read_channel c.args.channel) (place_if x) (Told (code c.args.status) w)))) (sym c.in-Some.is) c.move_at.ensures.ok
 
 pub returns-in-Some-clause-err : goal.returns-in-Some-clause-err
 returns-in-Some-clause-err c =
     subst (λ (x : Option Place). IfErr c.move_at.result (Breaks (layout_of c.args.unit.now) c.args.unit.now c.move_at.new.unit
-        (λ p day w. meant.into_place p.layout (read_channel c.args.channel) (place_if x) (Told (code c.args.status) w)))) (sym c.in-Some.is) c.move_at.ensures.err
+    (λ p day w. meant.into_place p.layout (read_channel c.args.channel) (place_if x) (Told (code c.args.status) w)))) (sym c.in-Some.is) c.move_at.ensures.err

@@ -1,4 +1,4 @@
-use Rattle.std.proofs.Common.{ℕ, pos, subst}
+use Rattle.std.proofs.Common.{pos, subst}
 use Rattle.data_layout.specs.declared.item.Layout.{Layout}
 use Rattle.place_table.specs.Tables.{Failed}
 use Rattle.program_meaning.specs.Layout as meant
