@@ -57,6 +57,13 @@ impl HeldFile {
         }
     }
 
+    /// How many bytes a record has.
+    pub(crate) fn record_length(&self) -> u32
+        ensures { result ≡ (disk self.now).length }
+    {
+        self.size as u32
+    }
+
     /// The bytes of all records.
     pub(crate) fn bytes(&self) -> Option<&[u8]>
         ensures bytes { option_map (λ bytes. bytes.now) result ≡ self.now.bytes }

@@ -1,4 +1,4 @@
-ghost use Rattle.std.specs.Prelude.{◌≡◌, ◌%◌, ◌<◌, ◌≤◌, length, take, drop, ◌++◌, option_map, slice_set, All, IfOk, IfErr, OnOk, OnErr};
+ghost use Rattle.std.specs.Prelude.{◌≡◌, ◌%◌, ◌<◌, ◌≤◌, length, take, drop, ◌++◌, option_map, slice_set, All, IfOk, IfErr, IfSome, IfNone, OnOk, OnErr};
 ghost use Rattle.std.specs.List.{concat};
 ghost use Rattle.program_meaning.specs.Files.{Closed, Done, disk_at, open_file, close_file, read_file, write_file, closed};
 ghost use Rattle.seq_files.specs.Codes.{code};
@@ -60,6 +60,18 @@ impl Store {
         ensures { option_map (λ bytes. bytes.now) result ≡ option_map concat (disk_at (disks self.now) file).records }
     {
         self.files[file as usize].bytes()
+    }
+
+    /// How many bytes a record of a file has; `None` where no file has the number.
+    pub fn record_length(&self, file: u32) -> Option<u32>
+        ensures length { IfSome result (λ bytes. bytes ≡ (disk_at (disks self.now) file).length) }
+        ensures there { IfSome result (λ bytes. file < length (disks self.now)) }
+        ensures none { IfNone result (file < length (disks self.now) → ⊥) }
+    {
+        match self.files.get(file as usize) {
+            Some(held) => Some(held.record_length()),
+            None => None,
+        }
     }
 
     /// OPEN. OUTPUT empties the file; the status of a missing one is 35 for INPUT and EXTEND.

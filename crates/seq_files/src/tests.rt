@@ -27,6 +27,8 @@ fn a_missing_file_is_opened_for_output_alone(rt: HostRuntime) -> Result<(), Fail
     assert_eq!(rt; store.open(0, Mode::Input), Status::S35);
     assert_eq!(rt; store.open(0, Mode::Extend), Status::S35);
     assert!(rt; store.bytes(0).is_none());
+    assert_eq!(rt; store.record_length(0), Some(3));
+    assert_eq!(rt; store.record_length(1), None);
     assert_eq!(rt; store.open(0, Mode::Output), Status::S00);
     assert_eq!(rt; store.bytes(0), Some(b"".as_slice()));
     Ok(())

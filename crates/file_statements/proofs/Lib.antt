@@ -1,0 +1,2 @@
+mod DoneLaws
+mod CallLaws

@@ -1,0 +1,4 @@
+pub mod Units
+pub mod Calls
+pub mod Faults
+pub mod Done
