@@ -1,0 +1,7 @@
+pub mod Called
+pub mod Ended
+pub mod Halted
+pub mod Led
+pub mod Months
+pub mod Parts
+pub mod Records
