@@ -1,5 +1,5 @@
 -- What the calls on files tell of the world of a run.
-use Rattle.std.specs.Prelude.{◌≡◌, ℕ, [], ◌∷◌, Option, Some, None}
+use Rattle.std.specs.Prelude.{◌≡◌, ℕ, Option, Some}
 use Rattle.std.proofs.Common.{ap, ◌∙◌, subst, sym}
 use Rattle.data_layout.specs.declared.item.Layout.{Layout}
 use Rattle.file_statements.specs.Calls as calls
@@ -11,18 +11,16 @@ use Rattle.file_statements.specs.declared.unit.RunUnit.{RunUnit}
 use Rattle.layout_reading.specs.Reading.{read_program}
 use Rattle.program_meaning.specs.Answer as answer
 use Rattle.program_meaning.specs.Answer.{or_fault}
-use Rattle.program_meaning.specs.Layout.{Item, item_of}
-use Rattle.program_meaning.specs.State.{Program, Channel, World, State, Faulted}
-use Rattle.program_meaning.specs.Step.{Calendar, Called, Told, Broken, attempt, after_status, channel_of, channel_at, for_file, write_record, write_from, from_operand}
-use Rattle.program_meaning.specs.Tree.{StatementId, Name, Operand}
+use Rattle.program_meaning.specs.State.{Program, Channel, World, State}
+use Rattle.program_meaning.specs.Step.{Calendar, Called, Told, Broken, attempt, after_status, channel_of, for_file}
+use Rattle.program_meaning.specs.Tree.{StatementId, Name}
 use Rattle.seq_files.specs.Codes.{code}
 use Rattle.seq_files.specs.declared.status.Status.{Status}
-use Rattle.trial_run.specs.Calls.{Call, Tells, Breaks, BreaksOff, called}
-use Rattle.trial_run.specs.Halts.{halt_of_step, Met}
+use Rattle.trial_run.specs.Calls.{Call, Tells, BreaksOff, called}
+use Rattle.trial_run.specs.Halts.{halt_of_step}
 use Rattle.trial_run.specs.Plans.{day_of}
 use Rattle.trial_run.specs.Runs.{world_of, shown_of}
 use Rattle.trial_run.specs.declared.halt.Halt.{Halt}
-use Rattle.trial_run.specs.declared.halt.Halt.TheVariants as halt
 use Rattle.trial_run.specs.declared.plan.Plan.{Plan}
 use Rattle.trial_run.specs.declared.run.Run.{Run}
 
@@ -58,26 +56,3 @@ module _ (program : Program) (day : Calendar) (id : StatementId) (w : World) (n 
       → for_file program day id w n f g ≡ g status now
   for_told c f status now found tells =
       ap (λ (o : Option Channel). attempt id w (or_fault answer.Range o) (λ c'. after_status id (f c') g)) found ∙ ap (λ (r : Called). after_status id r g) tells
-
-  pub write_told : (from : Option Operand) (i : Item) (c : Channel) (status : ℕ) (now : World) → item_of program.layout (n ∷ []) ≡ Some i
-      → channel_at i.span.area program.channels ≡ Some c → write_from program day c i.span (from_operand program day w from i.span) ≡ Told status now
-      → write_record program day id w n from g ≡ g status now
-  write_told from i c status now means found tells =
-      ap (λ (o : Option Item). attempt id w (or_fault answer.Range o) (λ j. attempt id w (or_fault answer.Range (channel_at j.span.area program.channels)) (λ d. after_status id (write_from program day d j.span (from_operand program day w from j.span)) g))) means
-      ∙ ap (λ (o : Option Channel). attempt id w (or_fault answer.Range o) (λ d. after_status id (write_from program day d i.span (from_operand program day w from i.span)) g)) found
-      ∙ ap (λ (r : Called). after_status id r g) tells
-
-  pub write_broke : (from : Option Operand) (i : Item) (c : Channel) (h : Halt) (now : World) → item_of program.layout (n ∷ []) ≡ Some i
-      → channel_at i.span.area program.channels ≡ Some c → Breaks now (write_from program day c i.span (from_operand program day w from i.span)) h
-      → Met id now (write_record program day id w n from g) h
-  write_broke from i c (halt.Fault kind) now means found breaks =
-      ap (λ (o : Option Item). attempt id w (or_fault answer.Range o) (λ j. attempt id w (or_fault answer.Range (channel_at j.span.area program.channels)) (λ d. after_status id (write_from program day d j.span (from_operand program day w from j.span)) g))) means
-      ∙ ap (λ (o : Option Channel). attempt id w (or_fault answer.Range o) (λ d. after_status id (write_from program day d i.span (from_operand program day w from i.span)) g)) found
-      ∙ ap (λ (r : Called). after_status id r g) breaks
-  write_broke from i c halt.Memory now means found breaks = breaks
-
-  pub write_none : (from : Option Operand) (i : Item) → item_of program.layout (n ∷ []) ≡ Some i
-      → channel_at i.span.area program.channels ≡ None → write_record program day id w n from g ≡ Faulted answer.Range id w
-  write_none from i means found =
-      ap (λ (o : Option Item). attempt id w (or_fault answer.Range o) (λ j. attempt id w (or_fault answer.Range (channel_at j.span.area program.channels)) (λ d. after_status id (write_from program day d j.span (from_operand program day w from j.span)) g))) means
-      ∙ ap (λ (o : Option Channel). attempt id w (or_fault answer.Range o) (λ d. after_status id (write_from program day d i.span (from_operand program day w from i.span)) g)) found

@@ -1,8 +1,8 @@
 -- What is computed and then gone on from.
 use Rattle.std.specs.Prelude.{◌≡◌}
-use Rattle.std.proofs.Common.{ap, ap₂, ◌∙◌, subst, sym, Bool, arith, refl, ◌≤◌, List, [], ◌∷◌, length, true}
+use Rattle.std.proofs.Common.{ap, ap₂, ◌∙◌, sym, Bool, arith, refl, ◌≤◌, List, [], ◌∷◌, length, true}
 use Rattle.program_meaning.specs.Answer.{Answer, Gives}
-use Rattle.program_meaning.specs.State.{World, State, Faulted}
+use Rattle.program_meaning.specs.State.{World}
 use Rattle.program_meaning.specs.Step.{attempt, has_end, with_storage}
 use Rattle.program_meaning.specs.Tree.{StatementId}
 use Rattle.program_meaning.specs.Tree as tree
@@ -12,25 +12,10 @@ use Rattle.program_meaning.specs.Storage.{Storage}
 use Rattle.run_control.specs.Held.{state_at, point_of, frames_of}
 use Rattle.run_control.specs.Program.{Way}
 use Rattle.run_control.specs.declared.position.Position.{Position}
-use Rattle.trial_run.specs.Answers.{read_kind}
 use Rattle.trial_run.specs.Runs.{world_of, storage_of}
 use Rattle.trial_run.specs.declared.run.Run.{Run}
-use Rattle.trial_run.specs.Halts.{FailsBy, Met}
-use Rattle.trial_run.specs.declared.halt.Halt.{Halt}
-use Rattle.trial_run.specs.declared.halt.Halt.TheVariants as halt
 
-pub gives : {A : Type 0} (id : StatementId) (w : World) (a : Answer A) (x : A) (f : A → State) (s : State) → a ≡ Gives x → f x ≡ s → attempt id w a f ≡ s
-gives id w a x f s is goes = ap (λ b. attempt id w b f) is ∙ goes
-
-pub fails : {A : Type 0} (id : StatementId) (w now : World) (a : Answer A) (f : A → State) (h : Halt) → FailsBy a h → now ≡ w → Met id now (attempt id w a f) h
-fails id w now a f (halt.Fault kind) is same =
-    ap (λ b. attempt id w b f) is ∙ ap (λ (x : World). Faulted (read_kind kind) id x) (sym same)
-fails id w now a f halt.Memory is same = tt
-
--- the same where the run fails later on, after this has been computed
-pub later : {A : Type 0} (id : StatementId) (w now : World) (a : Answer A) (x : A) (f : A → State) (h : Halt) → a ≡ Gives x → Met id now (f x) h → Met id now (attempt id w a f) h
-later id w now a x f h is met = subst (λ b. Met id now (attempt id w b f) h) (sym is) met
-
+-- a list that is not empty is an AT END
 pub some_statements : (list : List Statement) (other : tree.Statements) → 1 ≤ length list → true ≡ has_end (tree.Present (read_statements list) other)
 some_statements [] other some = absurd (omega (arith, some))
 some_statements (x ∷ xs) other some = refl

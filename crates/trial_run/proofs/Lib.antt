@@ -3,5 +3,4 @@ pub mod Ended
 pub mod Halted
 pub mod Led
 pub mod Months
-pub mod Parts
 pub mod Records

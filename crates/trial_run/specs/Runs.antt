@@ -2,11 +2,9 @@
 use Rattle.std.specs.Prelude.{◌≡◌, List, map}
 use Rattle.file_statements.specs.Units as units
 use Rattle.file_statements.specs.Units.{IsUnitOf}
-use Rattle.program_meaning.specs.Answer.{Answer, Gives}
-use Rattle.program_meaning.specs.Layout.{Layout}
 use Rattle.program_meaning.specs.State.{Program, Point, Frame, World, State, Stopped, Faulted}
 use Rattle.program_meaning.specs.State as state
-use Rattle.program_meaning.specs.Step.{Calendar, act, with_storage}
+use Rattle.program_meaning.specs.Step.{Calendar, act}
 use Rattle.program_meaning.specs.Storage.{Storage}
 use Rattle.program_meaning.specs.Tree.{StatementId, Form}
 use Rattle.run_control.specs.Held.{state_at, point_of, frames_of}
@@ -54,11 +52,6 @@ Went plan old new way = led plan old way ≡ state_of new
 -- the way has met a fault, with the world as it is now
 abbrev pub Fell : Plan → Run → Run → StatementId → (Program → Calendar → Way) → Halt → Type 0
 Fell plan old new id way h = Met id (world_of new) (led plan old way) h
-
--- storage alone has changed, to what is computed
-pub record Stored (plan : Plan) (old new : Run) (meaning : Layout → Answer Storage) : Type 0 where
-  pub gives : meaning (program_of plan).layout ≡ Gives (storage_of new)
-  pub world : world_of new ≡ with_storage (world_of old) (storage_of new)
 
 -- where a statement has led to, whether the run goes on or a STOP RUN has ended it
 abbrev pub HasMoved : State → Run → Moved → Type 0

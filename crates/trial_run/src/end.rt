@@ -1,5 +1,3 @@
-ghost use Rattle.std.specs.Prelude.{◌≡◌};
-
 use cobol_syntax::StatementId;
 
 /// The faults of a run: bytes that hold no number are used as one; a subscript or a reference leaves its item; a divisor

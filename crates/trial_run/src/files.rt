@@ -1,4 +1,4 @@
-ghost use Rattle.std.specs.Prelude.{◌≡◌, false, IfOk, IfErr, OnOk, OnErr};
+ghost use Rattle.std.specs.Prelude.{◌≡◌, false, IfOk, IfErr, OnOk};
 ghost use Rattle.layout_reading.specs.Reading.{read_span, first_area};
 ghost use Rattle.program_channels.specs.Channel.{read_channel};
 ghost use Rattle.program_channels.specs.Channels.{HasRecord};
@@ -27,6 +27,7 @@ use seq_files::Status;
 use y2k_base::{Bytes, Span};
 
 impl<'a> Run<'a> {
+    /// The file's part of OPEN, and its status item.
     fn open(&mut self, plan: &Plan<'a>, channel: Channel<'a>, mode: Mode) -> Result<Status, Halt>
         requires run { IsRunOf plan.now self.old }
         requires channel { HasRecord plan.now.layout.now channel }
@@ -43,6 +44,7 @@ impl<'a> Run<'a> {
         }
     }
 
+    /// The file's part of CLOSE, and its status item.
     fn close(&mut self, plan: &Plan<'a>, channel: Channel<'a>) -> Result<Status, Halt>
         requires run { IsRunOf plan.now self.old }
         requires channel { HasRecord plan.now.layout.now channel }
@@ -59,6 +61,7 @@ impl<'a> Run<'a> {
         }
     }
 
+    /// The record of READ, the status item, and INTO. `end` says that there is an AT END.
     fn read(
         &mut self,
         plan: &Plan<'a>,
@@ -81,6 +84,7 @@ impl<'a> Run<'a> {
         }
     }
 
+    /// FROM, the file's part of WRITE, and its status item.
     fn write(
         &mut self,
         plan: &Plan<'a>,

@@ -1,4 +1,4 @@
-ghost use Rattle.std.specs.Prelude.{◌≡◌, IfOk, IfErr, OnOk, cond, map};
+ghost use Rattle.std.specs.Prelude.{◌≡◌, IfErr, OnOk, cond, map};
 ghost use Rattle.program_meaning.specs.Tree as tree;
 ghost use Rattle.tree_reading.specs.Reading.{read_operand, read_place, read_expr, read_condition, read_register, read_statements, read_id, place_if};
 ghost use Rattle.trial_run.specs.Branches.{branch_if};
@@ -16,7 +16,6 @@ use y2k_base::List;
 
 impl<'a> Run<'a> {
     /// MOVE.
-    #[tactic(auto, using(crate::proofs::Led::gives, crate::proofs::Led::fails))]
     pub(crate) fn do_move(
         &mut self,
         plan: &Plan<'a>,

@@ -15,6 +15,8 @@ mod program;
 mod progress;
 mod run;
 mod step;
+#[cfg(test)]
+mod tests;
 mod unit;
 mod whole;
 

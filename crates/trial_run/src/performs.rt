@@ -50,7 +50,6 @@ impl<'a> Run<'a> {
     }
 
     /// PERFORM with TIMES.
-    #[tactic(auto, using(crate::proofs::Led::gives, crate::proofs::Led::fails))]
     fn perform_times(
         &mut self,
         plan: &Plan<'a>,
@@ -118,7 +117,6 @@ impl<'a> Run<'a> {
     }
 
     /// The setting of VARYING, which is a MOVE.
-    #[tactic(auto, using(crate::proofs::Led::gives, crate::proofs::Led::fails))]
     fn set(&mut self, plan: &Plan<'a>, perform: Loop<'a>, vary: &Vary) -> Result<(), Halt>
         requires plan { IsPlan plan.now }
         requires run { IsRunOf plan.now self.old }
@@ -132,7 +130,6 @@ impl<'a> Run<'a> {
     }
 
     /// The stepping of VARYING, which is an ADD to its item.
-    #[tactic(auto, using(crate::proofs::Led::gives, crate::proofs::Led::fails))]
     fn advance(&mut self, plan: &Plan<'a>, perform: Loop<'a>, vary: &Vary) -> Result<(), Halt>
         requires plan { IsPlan plan.now }
         requires run { IsRunOf plan.now self.old }
@@ -147,7 +144,6 @@ impl<'a> Run<'a> {
     }
 
     /// The test of UNTIL.
-    #[tactic(auto, using(crate::proofs::Led::gives, crate::proofs::Led::fails))]
     fn test(&mut self, plan: &Plan<'a>, perform: Loop<'a>) -> Result<(), Halt>
         requires plan { IsPlan plan.now }
         requires run { IsRunOf plan.now self.old }

@@ -1,4 +1,4 @@
-ghost use Rattle.std.specs.Prelude.{◌≡◌, List, IfOk};
+ghost use Rattle.std.specs.Prelude.{List, IfOk};
 ghost use Rattle.program_meaning.specs.Job as job;
 ghost use Rattle.program_meaning.specs.Job.{Going, job_run};
 ghost use Rattle.program_meaning.specs.State.{Program};

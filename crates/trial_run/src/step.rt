@@ -1,4 +1,4 @@
-ghost use Rattle.std.specs.Prelude.{◌≡◌, IfOk, IfErr};
+ghost use Rattle.std.specs.Prelude.{IfOk, IfErr};
 ghost use Rattle.program_meaning.specs.State as state;
 ghost use Rattle.program_meaning.specs.Step.{act_task, step};
 ghost use Rattle.run_control.specs.Held.{read_task, read_body, read_stage};
@@ -90,6 +90,7 @@ impl<'a> Run<'a> {
         }
     }
 
+    /// A statement, at whose id its fault is met.
     fn act_statement(
         &mut self,
         plan: &Plan<'a>,
@@ -111,6 +112,7 @@ impl<'a> Run<'a> {
         }
     }
 
+    /// A further turn under TIMES.
     fn act_turn(
         &mut self,
         plan: &Plan<'a>,
@@ -130,6 +132,7 @@ impl<'a> Run<'a> {
         }
     }
 
+    /// What a loop does next.
     fn act_stage(
         &mut self,
         plan: &Plan<'a>,
@@ -151,6 +154,7 @@ impl<'a> Run<'a> {
         }
     }
 
+    /// What takes the step.
     fn act(&mut self, plan: &Plan<'a>, task: Task<'a>) -> Result<Stepped, Memory>
         requires plan { IsPlan plan.now }
         requires run { IsRunOf plan.now self.old }
