@@ -1,1 +1,1 @@
-pub mod InTwo
+pub mod Found

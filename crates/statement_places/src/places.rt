@@ -1,4 +1,5 @@
 ghost use Rattle.std.specs.Prelude.{◌≡◌, IfOk};
+ghost use Rattle.statement_places.specs.Found as found;
 ghost use Rattle.statement_places.specs.Statements as spec;
 
 use crate::left::Left;
@@ -19,13 +20,12 @@ fn place_in_list(
     Ok(at)
 }
 
-#[tactic(auto, using(crate::proofs::InTwo::in_first, crate::proofs::InTwo::in_second))]
 fn place_in_sentences(
     alloc: Global,
     sentences: &[Sentence],
     number: u32,
 ) -> Result<Option<u32>, Memory>
-    ensures { IfOk result (λ at. at ≡ spec.place_in number (spec.of_sentences sentences.now)) }
+    ensures { IfOk result (λ at. at ≡ found.in_sentences number sentences.now) }
 {
     let mut rest = sentences;
     while let [sentence, more @ ..] = rest {
@@ -37,13 +37,12 @@ fn place_in_sentences(
     Ok(None)
 }
 
-#[tactic(auto, using(crate::proofs::InTwo::in_first, crate::proofs::InTwo::in_second))]
 fn place_in_paragraphs(
     alloc: Global,
     paragraphs: &[Paragraph],
     number: u32,
 ) -> Result<Option<u32>, Memory>
-    ensures { IfOk result (λ at. at ≡ spec.place_in number (spec.of_paragraphs paragraphs.now)) }
+    ensures { IfOk result (λ at. at ≡ found.in_paragraphs number paragraphs.now) }
 {
     let mut rest = paragraphs;
     while let [paragraph, more @ ..] = rest {
@@ -57,6 +56,7 @@ fn place_in_paragraphs(
 
 /// The position of the first word of the statement with this number, in the words of its program. `None` where no
 /// statement has the number.
+#[tactic(auto, using(crate::proofs::Found::by_paragraphs))]
 pub fn statement_at(
     alloc: Global,
     program: &Program,
