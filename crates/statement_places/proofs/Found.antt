@@ -1,5 +1,5 @@
 -- Sentence by sentence the first statement with a number is found that is the first of all.
-use Rattle.std.proofs.Common.{◌≡◌, ℕ, Bool, true, false, List, [], ◌∷◌, ◌++◌, ◌==◌, Option, Some, None, if◌then◌else◌, refl, ap, sym, ◌∙◌}
+use Rattle.std.proofs.Common.{◌≡◌, ℕ, Bool, true, false, List, [], ◌∷◌, ◌++◌, ◌==◌, Option, Some, if◌then◌else◌, refl, ap, sym, ◌∙◌}
 use Rattle.cobol_syntax.specs.declared.program.Sentence.{Sentence}
 use Rattle.cobol_syntax.specs.declared.program.Paragraph.{Paragraph}
 use Rattle.statement_places.specs.Statements.{Numbered, place_in, of_statements, of_sentences, of_paragraphs}

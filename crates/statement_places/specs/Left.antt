@@ -1,5 +1,5 @@
 -- What is left to look at: lists of statements, the next one last.
-use Rattle.std.specs.Prelude.{ℕ, ◌+◌, ◌*◌, List, [], ◌∷◌, ◌++◌, length}
+use Rattle.std.specs.Prelude.{ℕ, ◌+◌, ◌*◌, List, [], ◌++◌, length}
 use Rattle.std.specs.List.{fold}
 use denote.Ref.{Bor}
 use Rattle.cobol_syntax.specs.declared.statement.Statement.{Statement}

@@ -7,11 +7,7 @@ use cobol_syntax::{Paragraph, Program, Sentence, Statement};
 use std::alloc::Global;
 use y2k_base::{Memory, Origin, Word};
 
-fn place_in_list(
-    alloc: Global,
-    list: &[Statement],
-    number: u32,
-) -> Result<Option<u32>, Memory>
+fn place_in_list(alloc: Global, list: &[Statement], number: u32) -> Result<Option<u32>, Memory>
     ensures { IfOk result (λ at. at ≡ spec.place_in number (spec.of_statements list.now)) }
 {
     let mut left = Left::none(alloc);
@@ -57,11 +53,7 @@ fn place_in_paragraphs(
 /// The position of the first word of the statement with this number, in the words of its program. `None` where no
 /// statement has the number.
 #[tactic(auto, using(crate::proofs::Found::by_paragraphs))]
-pub fn statement_at(
-    alloc: Global,
-    program: &Program,
-    number: u32,
-) -> Result<Option<u32>, Memory>
+pub fn statement_at(alloc: Global, program: &Program, number: u32) -> Result<Option<u32>, Memory>
     ensures { IfOk result (λ at. at ≡ spec.statement_at program.now number) }
 {
     let at = place_in_paragraphs(alloc, program.paragraphs.items(), number)?;
