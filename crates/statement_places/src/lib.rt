@@ -1,0 +1,9 @@
+//! Where the statements of a program stand in its text, by their numbers.
+#![tactic(auto)]
+
+mod left;
+mod places;
+#[cfg(test)]
+mod tests;
+
+pub use places::{statement_at, statement_origin};
