@@ -7,12 +7,10 @@ use Rattle.portfolio.specs.declared.manifest.Named.{Named}
 use Rattle.program_meaning.specs.Files.{Disk, disk_at}
 use Rattle.name_tables.specs.Table.{holds_nothing}
 use Rattle.job_files.specs.Numbers.{number_of, AreApart}
-use Rattle.job_files.specs.Loaded.{Contents, bytes_at, with_bytes, with_listed, contents_in, disks_in, size_at, size_of, with_disk, AreLoaded, AreClosed, IsWhole, IsWholeOf, AreWhole, IsRead, IsReadAt, IsUnread, IsUnreadAt, IsFault, IsFaultAt, HasFault, HasDataRefusal, HasBytes, HasReadFault, IsPartial, IsRefusalOf}
-use Rattle.job_files.specs.declared.read.ReadFault.{ReadFault}
-use Rattle.job_files.specs.declared.read.ReadFault.TheVariants as read
+use Rattle.job_files.specs.Loaded.{Contents, bytes_at, with_bytes, with_listed, contents_in, disks_in, size_at, size_of, with_disk, AreLoaded, AreClosed, IsWhole, IsWholeOf, AreWhole, IsRead, IsReadAt, IsUnread, IsUnreadAt, IsFault, IsFaultAt, HasFault, HasDataRefusal}
 use Rattle.job_files.specs.declared.refusal.DataRefusal.{DataRefusal}
 use Rattle.job_files.specs.declared.refusal.DataRefusal.TheVariants as refusal
-use Rattle.job_files.proofs.NumberLaws.{disk_set, disks_stay, is_size}
+use Rattle.job_files.proofs.NumberLaws.{as_many, disk_set, disks_stay, is_size}
 
 if_any : {A : Type 0} (o : Option A) (P : A → Type 0) → ((x : A) → P x) → IfSome o P
 if_any None P h = tt
@@ -57,7 +55,7 @@ more_refused told folder files named more refusal.Memory whole h = tt
 
 pub one_loaded : (told : Option Files) (folder : List ℕ) (listed : List Named) (files : List FileUse) (rest : List Named) (named : Named) (more : List Named) (before after : List Disk)
     → rest ≡ named ∷ more → Goes told folder listed files rest before → IsRead told folder files named before after → Goes told folder listed files more after
-one_loaded told folder listed files rest named more before after e goes (bytes, (step, known)) =
+one_loaded told folder listed files rest named more before after e goes (bytes, step, known) =
     let g = subst (λ (r : List Named). Goes told folder listed files r before) e goes in
     record {
       contents = with_bytes g.contents named.key bytes;
@@ -94,7 +92,7 @@ pub all_loaded : (told : Option Files) (folder : List ℕ) (listed : List Named)
     → rest ≡ [] → Goes told folder listed files rest ds → AreLoaded told folder listed files ds
 all_loaded told folder listed files rest ds e goes =
     let g = subst (λ (x : List Named). Goes told folder listed files x ds) e goes in
-    (g.contents, (g.is, g.held))
+    (g.contents, g.is, g.held)
 
 pub all_whole : (told : Option Files) (folder : List ℕ) (listed : List Named) (files : List FileUse) (rest : List Named) (ds : List Disk)
     → rest ≡ [] → Goes told folder listed files rest ds → IfSome told (λ shelved. AreWhole shelved folder files listed)
@@ -105,11 +103,11 @@ all_whole told folder listed files rest ds e goes =
 -- a file with a number is read where its disk is
 pub numbered_read : (told : Option Files) (folder : List ℕ) (files : List FileUse) (named : Named) (n : ℕ) (before after : List Disk) → AreApart files → AreClosed files before
     → number_of files named.key ≡ Some n → IsReadAt told (folder ++ named.name) n before after → IsRead told folder files named before after
-numbered_read told folder files named n before after apart closed e (bytes, (a, known)) =
-    (bytes, (disk_set files named.key n bytes before after apart e a,
+numbered_read told folder files named n before after apart closed e (bytes, a, known) =
+    (bytes, disk_set files named.key n bytes before after apart e a,
     if_one told (λ shelved. (bytes ≡ get shelved (folder ++ named.name)) × IsWholeOf (Some (disk_at before n).length) bytes)
     (λ shelved. (bytes ≡ bytes_at shelved folder named) × IsWhole shelved folder files named)
-    (λ shelved k. (k.0, whole shelved k)) known))
+    (λ shelved k. (k.0, whole shelved k)) known)
   where
     size : size_of files named.key ≡ Some (disk_at before n).length
     size = is_size closed.0 files before named.key n closed.1 e
@@ -128,44 +126,15 @@ numbered_unread told folder files named n before refusal.Memory closed e h = tt
 -- a file without a number isn't read
 pub unnumbered_read : (told : Option Files) (folder : List ℕ) (files : List FileUse) (named : Named) (ds : List Disk) → number_of files named.key ≡ None
     → IsRead told folder files named ds ds
-unnumbered_read None folder files named ds e = (None, (disks_stay files named.key None ds e, tt))
+unnumbered_read None folder files named ds e = (None, disks_stay files named.key None ds e, tt)
 unnumbered_read (Some shelved) folder files named ds e =
-    (bytes_at shelved folder named, (disks_stay files named.key (bytes_at shelved folder named) ds e,
-    (refl, subst (λ (s : Option ℕ). IsWholeOf s (bytes_at shelved folder named)) (sym (unsized files named.key e)) tt)))
+    let bytes : Option (List ℕ) = bytes_at shelved folder named in
+    let whole : IsWhole shelved folder files named = subst (λ (s : Option ℕ). IsWholeOf s bytes) (sym (unsized files named.key e)) tt in
+    let known : IfSome (Some shelved) (λ (f : Files). (bytes ≡ bytes_at f folder named) × IsWhole f folder files named) = (refl, whole) in
+    (bytes, disks_stay files named.key bytes ds e, known)
   where
     unsized : (files : List FileUse) (key : List ℕ) → number_of files key ≡ None → size_of files key ≡ None
     unsized files key e = ap (λ (o : Option ℕ). size_at files o) e
 
--- a file that was read and set is where it was read to
-pub set_read : (told : Option Files) (name : List ℕ) (n : ℕ) (bytes : List ℕ) (before after : List Disk) → HasBytes told name (Some bytes)
-    → after ≡ with_disk before n (Some bytes) → length bytes % (disk_at before n).length ≡ 0 → IsReadAt told name n before after
-set_read told name n bytes before after has a whole =
-    (Some bytes, (a, if_one told (λ shelved. Some bytes ≡ get shelved name) (λ shelved. (Some bytes ≡ get shelved name) × IsWholeOf (Some (disk_at before n).length) (Some bytes))
-    (λ shelved e. (e, (has.0, whole))) has.1))
-
-pub missing_read : (told : Option Files) (name : List ℕ) (n : ℕ) (ds : List Disk) → HasBytes told name None → IsReadAt told name n ds ds
-missing_read told name n ds has =
-    (None, (refl, if_one told (λ shelved. None ≡ get shelved name) (λ shelved. (None ≡ get shelved name) × IsWholeOf (Some (disk_at ds n).length) None) (λ shelved e. (e, tt)) has.1))
-
-pub set_unread : (told : Option Files) (name : List ℕ) (named : Named) (size : ℕ) (bytes : List ℕ) (r : DataRefusal) → HasBytes told name (Some bytes)
-    → IsPartial named size bytes r → IsUnreadAt told name named size r
-set_unread told name named size bytes (refusal.TooLarge text) has h = absurd h
-set_unread told name named size bytes (refusal.PartialRecord external left) has h =
-    if_one told (λ shelved. Some bytes ≡ get shelved name) (λ shelved. IsFaultAt named (Some size) (get shelved name) (refusal.PartialRecord external left))
-    (λ shelved e. subst (λ (b : Option (List ℕ)). IsFaultAt named (Some size) b (refusal.PartialRecord external left)) e (h.0, (has.0, (h.1, h.2)))) has.1
-set_unread told name named size bytes (refusal.Shelf text) has h = absurd h
-set_unread told name named size bytes refusal.Memory has h = tt
-
-large : (told : Option Files) (name : List ℕ) (named : Named) (size : ℕ) (text : List ℕ) → text ≡ named.name → HasReadFault told name read.TooLarge
-    → IsUnreadAt told name named size (refusal.TooLarge text)
-large told name named size text e h =
-    if_one told (λ shelved. (bytes : List ℕ) × (get shelved name ≡ Some bytes) × (256000000 < length bytes)) (λ shelved. IsFaultAt named (Some size) (get shelved name) (refusal.TooLarge text))
-    (λ shelved k. subst (λ (b : Option (List ℕ)). IsFaultAt named (Some size) b (refusal.TooLarge text)) (sym k.1) (e, k.2)) h
-
-pub fault_unread : (told : Option Files) (name : List ℕ) (named : Named) (size : ℕ) (fault : ReadFault) (r : DataRefusal) → HasReadFault told name fault
-    → IsRefusalOf fault named.name name r → IsUnreadAt told name named size r
-fault_unread told name named size fault (refusal.TooLarge text) has h =
-    large told name named size text h.1 (subst (λ (f : ReadFault). HasReadFault told name f) h.0 has)
-fault_unread told name named size fault (refusal.PartialRecord external left) has h = absurd h
-fault_unread told name named size fault (refusal.Shelf text) has h = h.1
-fault_unread told name named size fault refusal.Memory has h = tt
+pub all_there : (told : Option Files) (folder : List ℕ) (listed : List Named) (files : List FileUse) (ds : List Disk) → AreLoaded told folder listed files ds → length ds ≡ length files
+all_there told folder listed files ds (contents, is, held) = ap (λ (xs : List Disk). length xs) is ∙ as_many contents files

@@ -28,15 +28,15 @@ found_here before k f fs key n true e is =
     let same : f.external ≡ key = (bytes_eq-Decides f.external key).0 e in
     let number : n ≡ k = sym (some_is k n is) in
     let next : n ≡ k + 0 = omega (arith, number) in
-    inr (0, (next, ap (λ (x : List ℕ). Some x) same))
+    inr (0, next, ap (λ (x : List ℕ). Some x) same)
 found_here before k f fs key n false e is = inl is
 
 found_later : (before : List ℕ → Option ℕ) (k : ℕ) (f : FileUse) (fs : List FileUse) (key : List ℕ) (n : ℕ) → Found (with_value before f.external k) (k + 1) fs key n
     → Found before k (f ∷ fs) key n
 found_later before k f fs key n (inl is) = found_here before k f fs key n (bytes_eq f.external key) refl is
-found_later before k f fs key n (inr (i, (is, has))) =
+found_later before k f fs key n (inr (i, is, has)) =
     let next : n ≡ k + suc i = omega (arith, is) in
-    inr (suc i, (next, has))
+    inr (suc i, next, has)
 
 numbers_found : (before : List ℕ → Option ℕ) (k : ℕ) (files : List FileUse) (key : List ℕ) (n : ℕ) → numbers_from before k files key ≡ Some n → Found before k files key n
 numbers_found before k [] key n e = inl e
@@ -44,7 +44,7 @@ numbers_found before k (f ∷ fs) key n e = found_later before k f fs key n (num
 
 found_own : (files : List FileUse) (key : List ℕ) (n : ℕ) → Found holds_nothing 0 files key n → Has files n key
 found_own files key n (inl e) = no_some n e
-found_own files key n (inr (i, (is, has))) =
+found_own files key n (inr (i, is, has)) =
     let same : i ≡ n = omega (arith, is) in
     subst (λ (j : ℕ). Has files j key) same has
 
@@ -125,7 +125,7 @@ pub is_closed : (contents : Contents) (files : List FileUse) (ds : List Disk) (k
 is_closed contents files ds key n is e =
     subst (λ (xs : List Disk). (disk_at xs n).opening ≡ Closed) (sym is) (closed_here contents key files n (is_own files key n e))
 
-as_many : (contents : Contents) (files : List FileUse) → length (disks_in contents files) ≡ length files
+pub as_many : (contents : Contents) (files : List FileUse) → length (disks_in contents files) ≡ length files
 as_many contents [] = refl
 as_many contents (f ∷ fs) = ap suc (as_many contents fs)
 
@@ -172,3 +172,11 @@ pub disks_stay : (files : List FileUse) (key : List ℕ) (bytes : Option (List �
 disks_stay files key None before e contents is = is
 disks_stay files key (Some bs) before e contents is =
     is ∙ others contents key bs files (numbers_missing holds_nothing 0 files key e).1
+
+-- what the table of numbers gives for a name
+pub numbered : (table : List ℕ → Option ℕ) (files : List FileUse) (key k : List ℕ) (o : Option ℕ) → table ≡ number_of files → k ≡ key → o ≡ table k → number_of files key ≡ o
+numbered table files key k o same e is =
+    sym (is ∙ ap (λ (x : List ℕ). table x) e ∙ ap (λ (t : List ℕ → Option ℕ). t key) same)
+
+pub is_held : (files : List FileUse) (ds : List Disk) (key : List ℕ) (n : ℕ) → length ds ≡ length files → number_of files key ≡ Some n → n < length ds
+is_held files ds key n same e = subst (λ (m : ℕ). n < m) (sym same) (is_within files key n (is_own files key n e))

@@ -51,7 +51,7 @@ pub begun : (name piece : List ℕ) (before mid after : Option Files) → mid �
     → MayHaveBegun name piece before after
 begun name piece before mid after m (inl same) =
     let low : 0 ≤ length piece - 1 = omega arith in
-    inr (0, (low, same ∙ m ∙ empty_front name piece before))
-begun name piece before mid after m (inr (n, (below, a))) =
+    inr (0, low, same ∙ m ∙ empty_front name piece before)
+begun name piece before mid after m (inr (n, below, a)) =
     let low : n ≤ length piece - 1 = omega (arith, below) in
-    inr (n, (low, written name (take n piece) before mid after m a))
+    inr (n, low, written name (take n piece) before mid after m a)

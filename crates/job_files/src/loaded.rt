@@ -32,6 +32,7 @@ pub fn load_files<S: Shelf>(
     requires positive { All (λ file. 0 < file.length) files.now }
     requires apart { AreApart files.now }
     ensures loaded { IfOk result (λ store. spec.AreLoaded (S.told shelf.old) folder.now listed.now files.now (disks store)) }
+    ensures count { IfOk result (λ store. length (disks store) ≡ length files.now) }
     ensures whole { IfOk result (λ store. IfSome (S.told shelf.old) (λ shelved. spec.AreWhole shelved folder.now files.now listed.now)) }
     ensures refusal { IfErr result (spec.HasDataRefusal (S.told shelf.old) folder.now files.now listed.now) }
     ensures rose { IfErr result (λ refusal. spec.RoseWith refusal (S.faults shelf.old) (S.faults shelf.new)) }
