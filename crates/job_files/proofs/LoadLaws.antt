@@ -1,5 +1,5 @@
 -- Files that are loaded one after the other.
-use Rattle.std.proofs.Common.{◌≡◌, ◌⊎◌, inl, inr, ◌≤◌, ◌<◌, ◌++◌, ◌%◌, ℕ, List, [], ◌∷◌, length, refl, sym, ap, ◌∙◌, subst, Option, Some, None, IfSome}
+use Rattle.std.proofs.Common.{◌≡◌, inl, inr, ◌++◌, ℕ, List, [], ◌∷◌, length, refl, sym, ap, ◌∙◌, subst, Option, Some, None, IfSome}
 use Rattle.std.specs.FinMap.{get}
 use Rattle.shelf.specs.Contents.{Files}
 use Rattle.data_layout.specs.declared.portfolio.FileUse.{FileUse}
@@ -7,7 +7,7 @@ use Rattle.portfolio.specs.declared.manifest.Named.{Named}
 use Rattle.program_meaning.specs.Files.{Disk, disk_at}
 use Rattle.name_tables.specs.Table.{holds_nothing}
 use Rattle.job_files.specs.Numbers.{number_of, AreApart}
-use Rattle.job_files.specs.Loaded.{Contents, bytes_at, with_bytes, with_listed, contents_in, disks_in, size_at, size_of, with_disk, AreLoaded, AreClosed, IsWhole, IsWholeOf, AreWhole, IsRead, IsReadAt, IsUnread, IsUnreadAt, IsFault, IsFaultAt, HasFault, HasDataRefusal}
+use Rattle.job_files.specs.Loaded.{Contents, bytes_at, with_bytes, with_listed, contents_in, disks_in, size_at, size_of, AreLoaded, AreClosed, IsWhole, IsWholeOf, AreWhole, IsRead, IsReadAt, IsUnread, IsUnreadAt, IsFault, IsFaultAt, HasFault, HasDataRefusal}
 use Rattle.job_files.specs.declared.refusal.DataRefusal.{DataRefusal}
 use Rattle.job_files.specs.declared.refusal.DataRefusal.TheVariants as refusal
 use Rattle.job_files.proofs.NumberLaws.{as_many, disk_set, disks_stay, is_size}

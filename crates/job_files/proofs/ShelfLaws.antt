@@ -1,5 +1,5 @@
 -- Files that are made and then appended to.
-use Rattle.std.proofs.Common.{◌≡◌, ◌⊎◌, inl, inr, ◌++◌, ◌<◌, ◌≤◌, ◌-◌, ℕ, Bool, true, false, cond, List, [], length, take, refl, sym, ap, ◌∙◌, Option, Some, None, unwrap_or, arith}
+use Rattle.std.proofs.Common.{◌≡◌, inl, inr, ◌++◌, ◌≤◌, ◌-◌, ℕ, Bool, true, false, cond, List, [], length, take, refl, sym, ap, ◌∙◌, Option, Some, None, unwrap_or, arith}
 use Rattle.std.specs.Option.{option_map}
 use Rattle.std.specs.Ordering.{nat_cmp, eq_by_cmp}
 use Rattle.std.specs.Cmp.Lexicographic.{slice_cmp}
@@ -7,7 +7,7 @@ use Rattle.std.proofs.lemmas.Cmp.{nat_list_cmp_total}
 use Rattle.std.specs.FinMap.{get, insert, get-insert, same_map, slice_cmp-IsAntisymmetric, nat_cmp-IsAntisymmetric}
 use Rattle.std.proofs.lemmas.Map.Text.{is_eq-slice_cmp}
 use Rattle.std.proofs.lemmas.Slice.Eq.{bytes_eq-Decides}
-use Rattle.shelf.specs.Contents.{Files, bytes_of, appended, emptied, MayHaveAppended}
+use Rattle.shelf.specs.Contents.{Files, appended, emptied, MayHaveAppended}
 use Rattle.job_files.specs.Written.{with_bytes, MayHaveBegun}
 
 abbrev same_name : List ℕ → List ℕ → Bool

@@ -1,12 +1,12 @@
 -- Files that are written one after the other.
-use Rattle.std.proofs.Common.{◌≡◌, ◌⊎◌, inl, inr, ℕ, List, [], ◌∷◌, refl, sym, ap, ◌∙◌, subst, Option, Some, None}
+use Rattle.std.proofs.Common.{◌≡◌, inl, inr, ℕ, List, [], ◌∷◌, refl, sym, ap, ◌∙◌, subst, Option, Some, None}
 use Rattle.std.specs.Option.{option_map}
 use Rattle.data_layout.specs.declared.portfolio.FileUse.{FileUse}
 use Rattle.portfolio.specs.declared.manifest.Named.{Named}
 use Rattle.program_meaning.specs.Files.{Disk}
 use Rattle.shelf.specs.Contents.{Files}
 use Rattle.written_names.specs.Clashes.{under, done_under}
-use Rattle.job_files.specs.Written.{bytes_held, done_bytes, with_bytes, with_held, with_file, with_files, with_done, with_run, MayHaveBegun, MayHaveBegunHeld, HasLeft, IsFaultAt, HasWriteFault, IsWritten}
+use Rattle.job_files.specs.Written.{bytes_held, done_bytes, with_bytes, with_held, with_file, with_files, with_run, MayHaveBegun, MayHaveBegunHeld, HasLeft, IsFaultAt, HasWriteFault}
 use Rattle.job_files.specs.declared.refusal.WriteFault.{WriteFault}
 use Rattle.job_files.specs.declared.refusal.WriteFault.TheVariants as fault
 

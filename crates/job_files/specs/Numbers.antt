@@ -1,5 +1,5 @@
 -- External files by their numbers, which are their places in a portfolio.
-use Rattle.std.specs.Prelude.{◌≡◌, ℕ, ◌+◌, ◌<◌, List, [], ◌∷◌, length, slice_get, Option, Some, option_map}
+use Rattle.std.specs.Prelude.{◌≡◌, ℕ, ◌+◌, List, [], ◌∷◌, slice_get, Option, Some, option_map}
 use Rattle.data_layout.specs.declared.portfolio.FileUse.{FileUse}
 use Rattle.name_tables.specs.Table.{holds_nothing, with_value}
 

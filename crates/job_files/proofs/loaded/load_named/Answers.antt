@@ -1,7 +1,6 @@
-use Rattle.std.proofs.Common.{◌≡◌, Some, None}
+use Rattle.std.proofs.Common.{Some, None}
 use Rattle.name_tables.specs.Table.{held}
 use Rattle.seq_files.specs.Disks.{disks}
-use Rattle.job_files.specs.Numbers.{number_of}
 use Rattle.job_files.proofs.LoadLaws.{numbered_read, numbered_unread, unnumbered_read}
 use Rattle.job_files.proofs.NumberLaws.{numbered, is_below, is_closed}
 use Rattle.job_files.proofs.loaded.load_named.Goals as goal
