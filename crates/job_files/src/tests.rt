@@ -10,7 +10,9 @@ use std::alloc::Global;
 use std::test::Fail;
 use y2k_base::{Bytes, List, Memory};
 
-fn bytes(alloc: Global, text: &[u8]) -> Result<Bytes, Memory> {
+fn bytes(alloc: Global, text: &[u8]) -> Result<Bytes, Memory>
+    ensures { IfOk result (λ bytes. bytes ≡ text.now) }
+{
     let mut bytes = List::new(alloc);
     bytes.append(text)?;
     Ok(bytes)
@@ -33,19 +35,11 @@ fn file(alloc: Global, external: &[u8], length: u32) -> Result<FileUse, Memory>
     ensures length { IfOk result (λ file. file.length ≡ length) }
 {
     Ok(FileUse {
-        external: bytes_of(alloc, external)?,
+        external: bytes(alloc, external)?,
         name: List::new(alloc),
         length,
         areas: List::new(alloc),
     })
-}
-
-fn bytes_of(alloc: Global, text: &[u8]) -> Result<Bytes, Memory>
-    ensures { IfOk result (λ bytes. bytes ≡ text.now) }
-{
-    let mut bytes = List::new(alloc);
-    bytes.append(text)?;
-    Ok(bytes)
 }
 
 /// The files of a portfolio: B with records of two bytes, and A with records of three.
@@ -84,11 +78,11 @@ fn load(
 
 /// Whether bytes of the file of that external name are left over, so many.
 fn is_partial(
-    result: &Result<Store, DataRefusal>,
+    answer: &Result<Store, DataRefusal>,
     name: &[u8],
     count: u32,
 ) -> bool {
-    match result {
+    match answer {
         Err(DataRefusal::PartialRecord { external, left }) => {
             external.items() == name && *left == count
         }
@@ -97,8 +91,8 @@ fn is_partial(
 }
 
 /// Whether the shelf failed at that name.
-fn has_failed(result: &Result<Store, DataRefusal>, name: &[u8]) -> bool {
-    match result {
+fn has_failed(answer: &Result<Store, DataRefusal>, name: &[u8]) -> bool {
+    match answer {
         Err(DataRefusal::Shelf(call)) => call.items() == name,
         _ => false,
     }
@@ -185,7 +179,7 @@ fn done_is_not_whole_after_a_fault(rt: HostRuntime) -> Result<(), Fail> {
         let mut shelf = copied(alloc, Some(b"ABC"), call)?;
         assert_eq!(rt; shelf.size("out/done"), Ok(done));
     }
-    let mut shelf = copied(alloc, Some(b"ABC"), 11)?;
+    let mut shelf = copied(alloc, Some(b"ABC"), 0)?;
     assert_eq!(rt; shelf.size("out/done"), Ok(Some(5)));
     Ok(())
 }
