@@ -61,15 +61,15 @@ one_loaded told folder listed files rest named more before after e goes (bytes, 
       contents = with_bytes g.contents named.key bytes;
       is = step g.contents g.is;
       held = if_two told (λ shelved. (bytes ≡ bytes_at shelved folder named) × IsWhole shelved folder files named)
-      (λ shelved. with_listed shelved folder g.contents (named ∷ more) ≡ contents_in shelved folder listed)
-      (λ shelved. with_listed shelved folder (with_bytes g.contents named.key bytes) more ≡ contents_in shelved folder listed)
-      (λ shelved k h. ap (λ (b : Option (List ℕ)). with_listed shelved folder (with_bytes g.contents named.key b) more) k.0 ∙ h) known g.held;
+          (λ shelved. with_listed shelved folder g.contents (named ∷ more) ≡ contents_in shelved folder listed)
+          (λ shelved. with_listed shelved folder (with_bytes g.contents named.key bytes) more ≡ contents_in shelved folder listed)
+          (λ shelved k h. ap (λ (b : Option (List ℕ)). with_listed shelved folder (with_bytes g.contents named.key b) more) k.0 ∙ h) known g.held;
       whole = if_two told (λ shelved. (bytes ≡ bytes_at shelved folder named) × IsWhole shelved folder files named)
-      (λ shelved. AreWhole shelved folder files (named ∷ more) → AreWhole shelved folder files listed)
-      (λ shelved. AreWhole shelved folder files more → AreWhole shelved folder files listed)
-      (λ shelved k h w. h (k.1, w)) known g.whole;
+          (λ shelved. AreWhole shelved folder files (named ∷ more) → AreWhole shelved folder files listed)
+          (λ shelved. AreWhole shelved folder files more → AreWhole shelved folder files listed)
+          (λ shelved k h w. h (k.1, w)) known g.whole;
       refused = λ r h. g.refused r (more_refused told folder files named more r
-      (if_one told (λ shelved. (bytes ≡ bytes_at shelved folder named) × IsWhole shelved folder files named) (λ shelved. IsWhole shelved folder files named) (λ shelved k. k.1) known) h);
+          (if_one told (λ shelved. (bytes ≡ bytes_at shelved folder named) × IsWhole shelved folder files named) (λ shelved. IsWhole shelved folder files named) (λ shelved k. k.1) known) h);
     }
 
 first_refused : (told : Option Files) (folder : List ℕ) (files : List FileUse) (named : Named) (more : List Named) (r : DataRefusal)
@@ -103,14 +103,17 @@ all_whole told folder listed files rest ds e goes =
 -- a file with a number is read where its disk is
 pub numbered_read : (told : Option Files) (folder : List ℕ) (files : List FileUse) (named : Named) (n : ℕ) (before after : List Disk) → AreApart files → AreClosed files before
     → number_of files named.key ≡ Some n → IsReadAt told (folder ++ named.name) n before after → IsRead told folder files named before after
-numbered_read told folder files named n before after apart closed e (bytes, a, known) =
-    (bytes, disk_set files named.key n bytes before after apart e a,
-    if_one told (λ shelved. (bytes ≡ get shelved (folder ++ named.name)) × IsWholeOf (Some (disk_at before n).length) bytes)
-    (λ shelved. (bytes ≡ bytes_at shelved folder named) × IsWhole shelved folder files named)
-    (λ shelved k. (k.0, whole shelved k)) known)
+numbered_read told folder files named n before after apart closed e (bytes, a, known) = (
+  bytes,
+  disk_set files named.key n bytes before after apart e a,
+  if_one told (λ shelved. (bytes ≡ get shelved (folder ++ named.name)) × IsWholeOf (Some (disk_at before n).length) bytes)
+      (λ shelved. (bytes ≡ bytes_at shelved folder named) × IsWhole shelved folder files named)
+      (λ shelved k. (k.0, whole shelved k)) known,
+)
   where
     size : size_of files named.key ≡ Some (disk_at before n).length
     size = is_size closed.0 files before named.key n closed.1 e
+
     whole : (shelved : Files) → (bytes ≡ get shelved (folder ++ named.name)) × IsWholeOf (Some (disk_at before n).length) bytes → IsWhole shelved folder files named
     whole shelved k = subst (λ (b : Option (List ℕ)). IsWholeOf (size_of files named.key) b) k.0 (subst (λ (s : Option ℕ). IsWholeOf s bytes) (sym size) k.1)
 

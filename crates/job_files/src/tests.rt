@@ -67,21 +67,11 @@ fn load(
     shelf.fail_on(fault)?;
     let listed = listed(alloc)?;
     let files = files(alloc)?;
-    Ok(load_files(
-        alloc,
-        "in/",
-        listed.items(),
-        files.items(),
-        &mut shelf,
-    ))
+    Ok(load_files(alloc, "in/", listed.items(), files.items(), &mut shelf))
 }
 
 /// Whether bytes of the file of that external name are left over, so many.
-fn is_partial(
-    answer: &Result<Store, DataRefusal>,
-    name: &[u8],
-    count: u32,
-) -> bool {
+fn is_partial(answer: &Result<Store, DataRefusal>, name: &[u8], count: u32) -> bool {
     match answer {
         Err(DataRefusal::PartialRecord { external, left }) => {
             external.items() == name && *left == count
@@ -111,7 +101,12 @@ fn the_first_file_that_is_not_whole_records_is_named(rt: HostRuntime) -> Result<
 #[test]
 fn a_fault_of_the_shelf_is_named_by_the_call(rt: HostRuntime) -> Result<(), Fail> {
     let alloc = rt.alloc();
-    for (call, name) in [(1, b"in/a.dat"), (2, b"in/a.dat"), (3, b"in/b.dat"), (4, b"in/b.dat")] {
+    for (call, name) in [
+        (1, b"in/a.dat"),
+        (2, b"in/a.dat"),
+        (3, b"in/b.dat"),
+        (4, b"in/b.dat"),
+    ] {
         assert!(rt; has_failed(&load(alloc, b"ABC", b"xy", call)?, name));
     }
     assert!(rt; load(alloc, b"ABC", b"xy", 5)?.is_ok());
@@ -147,7 +142,14 @@ fn copied(alloc: Global, first: Option<&[u8]>, fault: u64) -> Result<MemoryShelf
     let files = files(alloc)?;
     match load_files(alloc, "in/", listed.items(), files.items(), &mut shelf) {
         Ok(store) => {
-            match write_files(alloc, "out", listed.items(), files.items(), &store, &mut shelf) {
+            match write_files(
+                alloc,
+                "out",
+                listed.items(),
+                files.items(),
+                &store,
+                &mut shelf,
+            ) {
                 Ok(()) => {}
                 Err(_) => {}
             }
@@ -175,7 +177,14 @@ fn files_that_are_held_are_written_and_then_done(rt: HostRuntime) -> Result<(), 
 #[test]
 fn done_is_not_whole_after_a_fault(rt: HostRuntime) -> Result<(), Fail> {
     let alloc = rt.alloc();
-    for (call, done) in [(5, None), (6, None), (7, None), (8, None), (9, None), (10, Some(0))] {
+    for (call, done) in [
+        (5, None),
+        (6, None),
+        (7, None),
+        (8, None),
+        (9, None),
+        (10, Some(0)),
+    ] {
         let mut shelf = copied(alloc, Some(b"ABC"), call)?;
         assert_eq!(rt; shelf.size("out/done"), Ok(done));
     }

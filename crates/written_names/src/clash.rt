@@ -58,12 +58,7 @@ fn names_read(
     Ok(names)
 }
 
-fn add_names(
-    alloc: Global,
-    folder: &[u8],
-    more: &[Bytes],
-    names: &mut Names,
-) -> Result<(), Memory>
+fn add_names(alloc: Global, folder: &[u8], more: &[Bytes], names: &mut Names) -> Result<(), Memory>
     ensures { OnOk result (named names.new ≡ spec.with_all (named names.old) (spec.names_in folder.now more.now)) }
 {
     let mut rest = more;
@@ -75,12 +70,7 @@ fn add_names(
     Ok(())
 }
 
-fn add_files(
-    alloc: Global,
-    folder: &[u8],
-    files: &[Named],
-    names: &mut Names,
-) -> Result<(), Memory>
+fn add_files(alloc: Global, folder: &[u8], files: &[Named], names: &mut Names) -> Result<(), Memory>
     ensures { OnOk result (named names.new ≡ spec.with_all (named names.old) (spec.names_in folder.now (map file_of files.now))) }
 {
     let mut rest = files;

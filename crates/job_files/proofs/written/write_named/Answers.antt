@@ -10,5 +10,5 @@ bytes-requires g c =
     let key = c.args.named.now.key in
     record {
       file = is_held files (disks c.args.store.now) key c.in-Some.number c.requires.held
-      (numbered (held c.args.numbers.now) files key c.items.result.now (Some c.in-Some.number) c.requires.numbers c.items.ensures c.in-Some.ensures);
+          (numbered (held c.args.numbers.now) files key c.items.result.now (Some c.in-Some.number) c.requires.numbers c.items.ensures c.in-Some.ensures);
     }
