@@ -1,0 +1,4 @@
+mod LoadLaws
+mod NumberLaws
+mod ShelfLaws
+mod WriteLaws

@@ -1,0 +1,13 @@
+//! The names that a form of the command line writes: whether one of them is that of a file that it reads, or stands
+//! twice, and whether an earlier run has ended where this one would write.
+#![tactic(auto)]
+
+mod clash;
+mod out;
+mod path;
+#[cfg(test)]
+mod tests;
+
+pub use clash::out_clash;
+pub use out::{names_of_run, out_taken};
+pub use path::name_under;
