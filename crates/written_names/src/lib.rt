@@ -3,11 +3,11 @@
 #![tactic(auto)]
 
 mod clash;
-mod out;
 mod path;
+mod taken;
 #[cfg(test)]
 mod tests;
 
 pub use clash::out_clash;
-pub use out::{names_of_run, out_taken};
 pub use path::name_under;
+pub use taken::{names_of_run, out_taken};
