@@ -1,6 +1,6 @@
-use Rattle.std.proofs.Common.{◌≡◌, ◌++◌, ℕ, List, map, ap, ◌∙◌}
+use Rattle.std.proofs.Common.{◌++◌, ℕ, List, map, ap, ◌∙◌}
 use Rattle.std.specs.Option.{option_to_list}
-use Rattle.name_tables.specs.Names.{Known, named, no_names, with_name}
+use Rattle.name_tables.specs.Names.{Known, named, with_name}
 use Rattle.portfolio.specs.Faults.{file_of}
 use Rattle.portfolio.specs.declared.manifest.Named.{Named}
 use Rattle.written_names.specs.Clashes.{with_all}
