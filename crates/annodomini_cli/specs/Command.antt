@@ -1,5 +1,7 @@
 -- The words of the command line.
-use Rattle.std.specs.Prelude.{◌≡◌, ℕ, Bool, true, false, ◌&&◌, ◌||◌, if◌then◌else◌, ◌==◌, List, [], ◌∷◌, codes}
+use Rattle.std.specs.Prelude.{◌≡◌, ℕ, Bool, true, false, ◌&&◌, ◌||◌, if◌then◌else◌, ◌==◌, List, [], ◌∷◌, Some, codes}
+use Rattle.run_command.specs.Words.{day_of, bound_of}
+use Rattle.trial_run.specs.declared.day.Day.{Day}
 use Rattle.std.specs.Char.{is_ascii_alphanumeric}
 
 -- a letter, a digit, a hyphen or an underscore
@@ -32,6 +34,25 @@ IsLabel words main = (words ≡ codes "label" ∷ main ∷ []) × (is_shelf_name
 abbrev pub IsNoLabel : List (List ℕ) → Type 0
 IsNoLabel words = (main : List ℕ) → IsLabel words main → ⊥
 
+-- what `run` runs: a job of the portfolio of a manifest, on a day, for so many steps, and into a folder
+pub record IsTask (main date number out : List ℕ) (day : Day) (bound : ℕ) : Type 0 where
+  pub main_name : is_shelf_name main ≡ true
+  pub is_day : day_of date ≡ Some day
+  pub is_bound : bound_of number ≡ Some bound
+  pub out_name : is_shelf_name out ≡ true
+
+-- the words are `run M JOB YYMMDD BOUND OUT`
+pub record IsRun (words : List (List ℕ)) (main job : List ℕ) (day : Day) (bound : ℕ) (out : List ℕ) : Type 0 where
+  pub date : List ℕ
+  pub number : List ℕ
+  pub are : words ≡ codes "run" ∷ main ∷ job ∷ date ∷ number ∷ out ∷ []
+  pub task : IsTask main date number out day bound
+
+abbrev pub IsNoRun : List (List ℕ) → Type 0
+IsNoRun words = (main job : List ℕ) (day : Day) (bound : ℕ) (out : List ℕ) → IsRun words main job day bound out → ⊥
+
 -- the words are none of the forms of the command line
-abbrev pub HaveNoForm : List (List ℕ) → Type 0
-HaveNoForm words = IsNoLabelOne words × IsNoLabel words
+pub record HaveNoForm (words : List (List ℕ)) : Type 0 where
+  pub no_label_one : IsNoLabelOne words
+  pub no_label : IsNoLabel words
+  pub no_run : IsNoRun words

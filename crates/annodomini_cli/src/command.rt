@@ -53,7 +53,7 @@ fn is_label(word: &str) -> bool
 
 /// Whether the bytes are parts of letters, digits, points, hyphens and underscores joined by slashes, no
 /// part empty or of points alone.
-fn is_name(name: &[u8]) -> bool
+pub(crate) fn is_name(name: &[u8]) -> bool
     ensures { result ≡ is_shelf_name name.now }
 {
     let mut seen = false;

@@ -11,6 +11,9 @@ mod order_tests;
 #[cfg(test)]
 mod portfolio_tests;
 #[cfg(test)]
+mod run_tests;
+mod run_words;
+#[cfg(test)]
 mod tests;
 mod top;
 

@@ -3,12 +3,16 @@ ghost use Rattle.shelf.specs.Causes.{Rose};
 ghost use Rattle.answers.specs.Said.{IsSaid};
 ghost use Rattle.label_command.specs.Answer.{IsAnswered};
 ghost use Rattle.label_report.specs.Answer as report;
-ghost use Rattle.annodomini_cli.specs.Command.{HaveNoForm, IsLabel, IsLabelOne};
+ghost use Rattle.run_command.specs.Answer as running;
+ghost use Rattle.trial_run.specs.declared.day.Day as days;
+ghost use Rattle.annodomini_cli.specs.Command.{HaveNoForm, IsLabel, IsLabelOne, IsNoRun, IsRun};
 
 use crate::command::{label_of, label_one_of};
+use crate::run_words::run_of;
 use answers::{USAGE, say};
 use label_command::label_one;
 use label_report::report_labels;
+use run_command::report_run;
 use shelf::{Shelf, Sink};
 use std::alloc::Global;
 
@@ -37,14 +41,44 @@ pub fn annodomini<S: Shelf, K: Sink>(
     ensures shelf_fault { result ≡ 6 → Rose (S.faults shelf.old) (S.faults shelf.new) }
     ensures sink_fault { result ≡ 7 → Rose (K.faults out.old) (K.faults out.new) }
 
-    // The files stay as they are.
-    ensures same { S.told shelf.new ≡ S.told shelf.old }
+    // A job of the portfolio of a manifest.
+    ensures run { (main : List ℕ) (job : List ℕ) (day : days.Day) (bound : ℕ) (into : List ℕ) → IsRun (map string_bytes words.now) main job day bound into →
+        running.IsAnswered (running.IsAnswer (S.told shelf.old) main job day bound into) (K.taken out.old) (K.taken out.new) (S.told shelf.new) result }
+
+    // But for a run the files stay as they are.
+    ensures same { IsNoRun (map string_bytes words.now) → S.told shelf.new ≡ S.told shelf.old }
 {
     match label_one_of(words) {
         Some(found) => label_one(alloc, found.source, found.item, shelf, out),
         None => match label_of(words) {
             Some(main) => report_labels(alloc, main, shelf, out),
-            None => say(USAGE_LINE.as_bytes(), USAGE, out),
+            None => run_or_usage(alloc, words, shelf, out),
         },
+    }
+}
+
+/// Runs a job, where the words ask for it, or prints the usage line.
+fn run_or_usage<S: Shelf, K: Sink>(
+    alloc: Global,
+    words: &[String],
+    shelf: &mut S,
+    out: &mut K,
+) -> u8
+    ensures usage { IsNoRun (map string_bytes words.now) → IsSaid 2 USAGE_LINE.now (K.taken out.old) (K.taken out.new) result }
+    ensures no_form { result ≡ 2 → IsNoRun (map string_bytes words.now) }
+    ensures run { (main : List ℕ) (job : List ℕ) (day : days.Day) (bound : ℕ) (into : List ℕ) → IsRun (map string_bytes words.now) main job day bound into →
+        running.IsAnswered (running.IsAnswer (S.told shelf.old) main job day bound into) (K.taken out.old) (K.taken out.new) (S.told shelf.new) result }
+    ensures shelf_fault { result ≡ 6 → Rose (S.faults shelf.old) (S.faults shelf.new) }
+    ensures sink_fault { result ≡ 7 → Rose (K.faults out.old) (K.faults out.new) }
+    ensures same { IsNoRun (map string_bytes words.now) → S.told shelf.new ≡ S.told shelf.old }
+{
+    match run_of(words) {
+        Some(found) => {
+            let task = found.task;
+            report_run(
+                alloc, found.main, found.job, task.day, task.bound, task.out, shelf, out,
+            )
+        }
+        None => say(USAGE_LINE.as_bytes(), USAGE, out),
     }
 }

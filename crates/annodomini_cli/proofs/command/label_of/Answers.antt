@@ -1,4 +1,4 @@
-use Rattle.std.proofs.Common.{rules, ◌≡◌, ℕ, ◌∷◌, [], List, length, get_or, map, refl, sym, ap, ◌∙◌, arith, string_bytes}
+use Rattle.std.proofs.Common.{rules, ◌≡◌, ◌∷◌, [], List, length, get_or, map, sym, ap, ◌∙◌, arith, string_bytes}
 use Rattle.annodomini_cli.proofs.command.label_of.Goals as goal
 
 -- a list of two

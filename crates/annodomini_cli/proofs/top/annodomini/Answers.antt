@@ -1,4 +1,4 @@
-use Rattle.std.proofs.Common.{◌≡◌, ◌≢◌, ℕ, Bool, List, [], ◌∷◌, length, Option, sym, ◌∙◌, ap, subst}
+use Rattle.std.proofs.Common.{◌≡◌, ℕ, List, [], ◌∷◌, Option, sym, ◌∙◌, ap, subst}
 use Rattle.shelf.specs.Contents.{Files}
 use Rattle.label_command.specs.Answer.{IsAnswered}
 use Rattle.label_report.specs.Answer as report
@@ -35,7 +35,7 @@ same-label words main other told before after status is so answered =
     subst (λ (m : List ℕ). report.IsAnswered (report.IsAnswer m told) before after status) (sym (ap second is.0) ∙ ap second so.0) answered
 
 pub returns-in-Some-clause-usage : goal.returns-in-Some-clause-usage
-returns-in-Some-clause-usage g c = λ none. absurd (none.0 _ _ c.in-Some.ensures.found)
+returns-in-Some-clause-usage g c = λ none. absurd (none.no_label_one _ _ c.in-Some.ensures.found)
 
 pub returns-in-Some-clause-label_one : goal.returns-in-Some-clause-label_one
 returns-in-Some-clause-label_one g c = λ source item is. same-form _ _ _ source item _ _ _ _ c.in-Some.ensures.found is c.label_one.ensures.answer

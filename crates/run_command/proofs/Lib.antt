@@ -1,0 +1,4 @@
+mod ApartLaws
+mod JobLaws
+mod KeptLaws
+mod Said
