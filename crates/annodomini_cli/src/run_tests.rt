@@ -31,12 +31,7 @@ fn run_failing(
 }
 
 /// What a job of one program P answers.
-fn run_one(
-    alloc: Global,
-    entries: &str,
-    statements: &str,
-    bound: &str,
-) -> Result<Answer, Fail> {
+fn run_one(alloc: Global, entries: &str, statements: &str, bound: &str) -> Result<Answer, Fail> {
     let main = manifest(alloc, "\"P.cbl\"", "[jobs]\nJ = [\"P\"]")?;
     let text = program(alloc, "P", entries, statements)?;
     let files = [("m.toml", main.as_str()), ("P.cbl", text.as_str())];
@@ -44,7 +39,8 @@ fn run_one(
     Ok(answer)
 }
 
-const TWICE: &str = "           PERFORM Q 3 TIMES.\n           STOP RUN.\n       Q.\n           CONTINUE.\n       R.\n";
+const TWICE: &str =
+    "           PERFORM Q 3 TIMES.\n           STOP RUN.\n       Q.\n           CONTINUE.\n       R.\n";
 
 #[test]
 fn a_job_prints_what_it_shows_and_how_it_ends(rt: HostRuntime) -> Result<(), Fail> {
@@ -117,9 +113,21 @@ fn a_job_is_refused_by_name(rt: HostRuntime) -> Result<(), Fail> {
     let main = manifest(alloc, "\"P.cbl\"", "[jobs]\nJ = [\"P\"]\nK = [\"Q\"]")?;
     let clashing = manifest(alloc, "\"O/done\"", "[jobs]\nJ = [\"P\"]")?;
     let text = program(alloc, "P", "", "")?;
-    let plain = [("m.toml", main.as_str()), ("P.cbl", text.as_str()), ("O/done", "done")];
-    let taken = [("m.toml", main.as_str()), ("P.cbl", text.as_str()), ("O/done", "done\n")];
-    let clash = [("m.toml", clashing.as_str()), ("P.cbl", text.as_str()), ("O/done", "done\n")];
+    let plain = [
+        ("m.toml", main.as_str()),
+        ("P.cbl", text.as_str()),
+        ("O/done", "done"),
+    ];
+    let taken = [
+        ("m.toml", main.as_str()),
+        ("P.cbl", text.as_str()),
+        ("O/done", "done\n"),
+    ];
+    let clash = [
+        ("m.toml", clashing.as_str()),
+        ("P.cbl", text.as_str()),
+        ("O/done", "done\n"),
+    ];
     let cases: [(&str, &[(&str, &str)], u8, &str); 5] = [
         ("J", &plain, 0, "P stopped\n"),
         ("K", &plain, 3, "refused UnknownJob K\n"),

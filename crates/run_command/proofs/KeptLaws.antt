@@ -122,20 +122,20 @@ module _ (program : Program) (day : Calendar) (n : ℕ) where
   kept-written id w name from p frames same =
       kept-attempt n id w (or_fault Range (item_of program.layout (name ∷ [])))
       (λ (i : Item). attempt id w (or_fault Range (step.channel_at i.span.area program.channels))
-          (λ (c : Channel). after_status id (step.write_from program day c i.span (step.from_operand program day w from i.span)) (λ status v. on frames p v)))
+      (λ (c : Channel). after_status id (step.write_from program day c i.span (step.from_operand program day w from i.span)) (λ status v. on frames p v)))
       same
       (λ (i : Item). kept-attempt n id w (or_fault Range (step.channel_at i.span.area program.channels))
-          (λ (c : Channel). after_status id (step.write_from program day c i.span (step.from_operand program day w from i.span)) (λ status v. on frames p v))
-          same
-          (λ (c : Channel). kept-status n id (step.write_from program day c i.span (step.from_operand program day w from i.span)) (λ status v. on frames p v)
-              (kept-write c i.span (step.from_operand program day w from i.span) (kept-from w from i.span same)) (λ status v kept. kept)))
+      (λ (c : Channel). after_status id (step.write_from program day c i.span (step.from_operand program day w from i.span)) (λ status v. on frames p v))
+      same
+      (λ (c : Channel). kept-status n id (step.write_from program day c i.span (step.from_operand program day w from i.span)) (λ status v. on frames p v)
+      (kept-write c i.span (step.from_operand program day w from i.span) (kept-from w from i.span same)) (λ status v kept. kept)))
 
   kept-read : (id : StatementId) (w : World) (name : Name) (into : Option Place) (end : Phrase) (p : Point) (frames : List Frame) → length w.files ≡ n
       → IsSized n (step.act program day id (Read name into end) p frames w)
   kept-read id w name into end p frames same =
       kept-for id w name (step.read_record program day w into (step.has_end end)) (λ status v. step.begin program day (step.by_status status end) p frames v) same
       (λ (c : Channel). kept-into n program.layout c into (step.call program day w c (read_file (step.disk_of w c)) (step.has_end end))
-          (kept-call w c (read_file (step.disk_of w c)) (step.has_end end) same))
+      (kept-call w c (read_file (step.disk_of w c)) (step.has_end end) same))
       (λ status v kept. kept)
 
   kept-act : (id : StatementId) (form : Form) (p : Point) (frames : List Frame) (w : World) → length w.files ≡ n → IsSized n (step.act program day id form p frames w)

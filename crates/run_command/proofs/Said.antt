@@ -62,9 +62,9 @@ pub finish_answered : (told now : Option Files) (opened : Opened) (out : List �
 finish_answered told now opened out g job e listed files text before after status names uses same answer =
     answered_by (IsOutcome told listed out files text e) (IsOrMemory told (IsOutcomeFor told opened out g job e)) before after now status
     (λ (s : ℕ) (t : List ℕ) (o : IsOutcome told listed out files text e s t now).
-        inl (subst (λ (ns : List Named). IsOutcome told ns out g.portfolio.files (lines_of opened.manifest g job e) e s t now) names
-        (subst (λ (fs : List FileUse). IsOutcome told listed out fs (lines_of opened.manifest g job e) e s t now) uses
-        (subst (λ (u : List ℕ). IsOutcome told listed out files u e s t now) same o))))
+    inl (subst (λ (ns : List Named). IsOutcome told ns out g.portfolio.files (lines_of opened.manifest g job e) e s t now) names
+    (subst (λ (fs : List FileUse). IsOutcome told listed out fs (lines_of opened.manifest g job e) e s t now) uses
+    (subst (λ (u : List ℕ). IsOutcome told listed out files u e s t now) same o))))
     answer
 
 pub or_memory : (A : Answered) (told : Option Files) (before after : Option (List ℕ)) → IsAnswered (IsOrMemory told A) before after told 8

@@ -105,7 +105,10 @@ fn data_status(fault: &DataRefusal) -> u8
 {
     match fault {
         DataRefusal::TooLarge(_) => REFUSED,
-        DataRefusal::PartialRecord { external: _, left: _ } => DATA_FAULT,
+        DataRefusal::PartialRecord {
+            external: _,
+            left: _,
+        } => DATA_FAULT,
         DataRefusal::Shelf(_) => SHELF_FAULT,
         DataRefusal::Memory => NO_MEMORY,
     }

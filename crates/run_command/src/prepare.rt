@@ -123,7 +123,12 @@ fn prepare_gathered<S: Shelf>(
     ensures later { S.faults shelf.old ≤ S.faults shelf.new }
     ensures same { S.told shelf.new ≡ S.told shelf.old }
 {
-    match job_of(alloc, &opened.manifest, gathered.portfolio.programs.items(), job) {
+    match job_of(
+        alloc,
+        &opened.manifest,
+        gathered.portfolio.programs.items(),
+        job,
+    ) {
         Ok(Some(job)) => match files_for(alloc, opened, &gathered, shelf) {
             Ok(store) => Ok(Prepared {
                 gathered,

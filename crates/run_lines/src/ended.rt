@@ -47,5 +47,9 @@ fn any_running(ends: &[End]) -> bool
 pub fn job_status(ends: &[End]) -> u8
     ensures { result ≡ spec.job_status ends.now }
 {
-    if any_running(ends) { STILL_RUNNING } else { DONE }
+    if any_running(ends) {
+        STILL_RUNNING
+    } else {
+        DONE
+    }
 }

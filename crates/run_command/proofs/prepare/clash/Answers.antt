@@ -8,6 +8,6 @@ pub returns : goal.returns
 returns c =
     let same : c.items-2.result.now ≡ names_of_run c.args.out.now c.args.opened.now.manifest.files = search rules in
     subst (λ (w : List (List ℕ)). MatchOption c.in_ok-found.found
-        (NonePasses (is_clash (names_read c.args.main.now (string_bytes c.args.opened.now.folder) (all_files c.args.opened.now.manifest)) w))
-        (IsLeast (is_clash (names_read c.args.main.now (string_bytes c.args.opened.now.folder) (all_files c.args.opened.now.manifest)) w)))
+    (NonePasses (is_clash (names_read c.args.main.now (string_bytes c.args.opened.now.folder) (all_files c.args.opened.now.manifest)) w))
+    (IsLeast (is_clash (names_read c.args.main.now (string_bytes c.args.opened.now.folder) (all_files c.args.opened.now.manifest)) w)))
     same c.in_ok-found.ensures
