@@ -1,4 +1,4 @@
-ghost use Rattle.std.specs.Prelude.{◌≡◌, ◌↔◌, IsTrue, IfSome, IfNone, MatchOption, ℕ, map, string_bytes, codes};
+ghost use Rattle.std.specs.Prelude.{◌≡◌, ◌≢◌, ◌↔◌, ◌∷◌, [], IsTrue, IfSome, IfNone, ℕ, length, map, string_bytes, codes};
 ghost use Rattle.annodomini_cli.specs.Command.{IsNoRun, IsRun, IsTask};
 ghost use Rattle.trial_run.specs.declared.day.Day as days;
 
@@ -22,21 +22,59 @@ pub struct Task<'a> {
     pub out: &'a str,
 }
 
+/// Six words.
+#[derive(Clone, Copy)]
+struct SixWords<'a> {
+    form: &'a str,
+    main: &'a str,
+    job: &'a str,
+    date: &'a str,
+    number: &'a str,
+    out: &'a str,
+}
+
 /// The words of `run M JOB YYMMDD BOUND OUT`, where they have this form.
 pub fn run_of(words: &[String]) -> Option<RunWords<'_>>
     ensures found { IfSome result (λ c. IsRun (map string_bytes words.now) c.main.now c.job.now c.task.day c.task.bound c.task.out.now) }
     ensures none { IfNone result (IsNoRun (map string_bytes words.now)) }
 {
+    match six_of(words) {
+        Some(six) => run_in(six),
+        None => None,
+    }
+}
+
+fn six_of(words: &[String]) -> Option<SixWords<'_>>
+    ensures found { IfSome result (λ s. map string_bytes words.now ≡ s.form.now ∷ s.main.now ∷ s.job.now ∷ s.date.now ∷ s.number.now ∷ s.out.now ∷ []) }
+    ensures none { IfNone result (length words.now ≢ 6) }
+{
     let [form, main, job, date, number, out] = words else {
         return None;
     };
-    if !is_run(form.as_str()) {
+    Some(SixWords {
+        form: form.as_str(),
+        main: main.as_str(),
+        job: job.as_str(),
+        date: date.as_str(),
+        number: number.as_str(),
+        out: out.as_str(),
+    })
+}
+
+fn run_in(six: SixWords<'_>) -> Option<RunWords<'_>>
+    ensures found { IfSome result (λ c. IsRun (six.entry.form.now ∷ six.entry.main.now ∷ six.entry.job.now ∷ six.entry.date.now ∷ six.entry.number.now ∷ six.entry.out.now ∷ [])
+        c.main.now c.job.now c.task.day c.task.bound c.task.out.now) }
+    ensures none { IfNone result (IsNoRun (six.entry.form.now ∷ six.entry.main.now ∷ six.entry.job.now ∷ six.entry.date.now ∷ six.entry.number.now ∷ six.entry.out.now ∷ [])) }
+{
+    if !is_run(six.form) {
         return None;
     }
-    let main = main.as_str();
-    let job = job.as_str();
-    match task_of(main, date.as_str(), number.as_str(), out.as_str()) {
-        Some(task) => Some(RunWords { main, job, task }),
+    match task_of(six.main, six.date, six.number, six.out) {
+        Some(task) => Some(RunWords {
+            main: six.main,
+            job: six.job,
+            task,
+        }),
         None => None,
     }
 }

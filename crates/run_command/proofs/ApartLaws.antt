@@ -5,7 +5,7 @@ use Rattle.std.specs.Str.{bytes_eq}
 use Rattle.std.proofs.lemmas.Slice.Eq.{bytes_eq-Decides}
 use Rattle.data_layout.specs.declared.portfolio.FileUse.{FileUse}
 use Rattle.data_layout.specs.declared.portfolio.Portfolio.{Portfolio}
-use Rattle.file_uses.specs.Records.{new_file, records_from, with_place, with_record, with_records}
+use Rattle.file_uses.specs.Records.{records_from, with_place, with_record, with_records}
 use Rattle.file_uses.specs.declared.record.FileRecord.{FileRecord}
 use Rattle.gathered.specs.Sound.{IsSound}
 use Rattle.job_files.specs.Numbers.{AreApart, external_of}

@@ -1,9 +1,9 @@
 -- A job has as many files after it as before it.
-use Rattle.std.proofs.Common.{◌≡◌, ℕ, zero, suc, Bool, true, false, cond, List, [], ◌∷◌, ◌++◌, length, Option, Some, None, refl, sym, ap, ◌∙◌, subst}
+use Rattle.std.proofs.Common.{◌≡◌, ℕ, zero, suc, Bool, true, false, cond, List, [], ◌∷◌, ◌++◌, length, Option, Some, None, refl, ap, ◌∙◌}
 use Rattle.std.specs.Prelude.{◌==◌, ◌||◌, pos}
 use Rattle.std.proofs.lemmas.List.{length-set}
-use Rattle.program_meaning.specs.Answer.{Answer, Gives, Fails, Fault, File, Range, or_fault}
-use Rattle.program_meaning.specs.Tree.{Name, StatementId, Place, Operand, Number, One, Add, At, Vary, Control, Once, Times, Until, Statement, Stated, Statements, Phrase, Performed, Through, Inline, Form, Move, Compute, If, NextSentence, GoTo, Stop, Nothing, Perform, Open, Close, Read, Write, Accept, Show}
+use Rattle.program_meaning.specs.Answer.{Answer, Gives, Fails, File, Range, or_fault}
+use Rattle.program_meaning.specs.Tree.{Name, StatementId, Place, Operand, Number, One, Add, At, Vary, Control, Once, Times, Until, Statement, Stated, Phrase, Performed, Through, Inline, Form, Move, Compute, If, NextSentence, GoTo, Stop, Nothing, Perform, Open, Close, Read, Write, Accept, Show}
 use Rattle.program_meaning.specs.Layout.{Item, Layout, Span, item_of}
 use Rattle.program_meaning.specs.Storage.{Storage, read}
 use Rattle.program_meaning.specs.Moves.{move, move_group, move_record, show_all}
@@ -13,7 +13,7 @@ use Rattle.program_meaning.specs.Files.{Disk, Done, closed, open_file, close_fil
 use Rattle.program_meaning.specs.State.{Channel, Program, Loop, Task, Do, Turn, Set, Advance, Test, Point, Frame, World, State, Running, Stopped, Faulted, on, point, Shown}
 use Rattle.program_meaning.specs.Step as step
 use Rattle.program_meaning.specs.Step.{Calendar, Called, Told, Broken, attempt, after_status, initial}
-use Rattle.program_meaning.specs.Job.{End, Ended, Failed, Open as StillOpen, JobState, Going, Over, files_of, job_after, job_run, job_start, job_step, next_program, passed_on, world_of}
+use Rattle.program_meaning.specs.Job.{End, Ended, JobState, Going, Over, files_of, job_after, job_run, job_start, job_step, next_program, passed_on, world_of}
 
 abbrev pub IsSized : ℕ → State → Type 0
 IsSized n s = length (world_of s).files ≡ n

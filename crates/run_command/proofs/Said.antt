@@ -1,5 +1,5 @@
 -- What is said is an answer.
-use Rattle.std.proofs.Common.{◌≡◌, ℕ, List, [], Option, inl, inr, refl, sym, ◌∙◌, subst, length, map}
+use Rattle.std.proofs.Common.{◌≡◌, ℕ, List, [], Option, inl, inr, refl, sym, subst}
 use Rattle.answers.specs.Said.{IsSaid}
 use Rattle.data_layout.specs.declared.portfolio.FileUse.{FileUse}
 use Rattle.gathered.specs.declared.gathering.Gathered.{Gathered}
@@ -20,7 +20,7 @@ use Rattle.trial_run.specs.Answers.{read_day}
 use Rattle.trial_run.specs.declared.day.Day.{Day}
 use Rattle.trial_run.specs.declared.job.Job.{Job}
 use Rattle.trial_run.specs.declared.job.JobEnd.{JobEnd}
-use Rattle.run_command.specs.Answer.{HasRun, IsEnd, IsAnswer, IsAnswered, IsAnswerFor, IsAnswerOf, IsEndOf, IsOrMemory, IsOutcome, IsOutcomeFor, IsPartWritten, IsWritten, fault_line, fault_status, lines_of}
+use Rattle.run_command.specs.Answer.{IsEnd, IsAnswer, IsAnswered, IsAnswerFor, IsAnswerOf, IsEndOf, IsOrMemory, IsOutcome, IsOutcomeFor, IsPartWritten, IsWritten, fault_line, fault_status, lines_of}
 use Rattle.run_command.specs.Refused.{HasRunRefusal, IsPrepared, run_line, run_status}
 use Rattle.run_command.specs.declared.prepared.Prepared.{Prepared}
 use Rattle.run_command.specs.declared.refusal.RunRefusal.{RunRefusal}

@@ -1,9 +1,7 @@
 -- What a run begins with, and why it doesn't begin.
 use Rattle.std.specs.Prelude.{◌≡◌, ◌⊎◌, ℕ, Bool, true, false, List, [], ◌++◌, Option, Some, None, IfSome, codes, decimal, string_bytes}
 use Rattle.answers.specs.Lines.{refused_name_line, shelf_fault_line}
-use Rattle.data_layout.specs.declared.portfolio.Portfolio.{Portfolio}
 use Rattle.gathered.specs.Shelved.{IsGathered, HasGatherFault, RoseWith}
-use Rattle.gathered.specs.declared.fault.GatherFault.{GatherFault}
 use Rattle.gathered.specs.declared.gathering.Gathered.{Gathered}
 use Rattle.job_files.specs.Loaded as files
 use Rattle.job_files.specs.declared.refusal.DataRefusal.{DataRefusal}

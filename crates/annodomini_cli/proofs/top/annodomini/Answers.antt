@@ -49,3 +49,7 @@ returns-in-Some-label_of-clause-label g c =
 
 pub returns-in-None-label_of-clause-label_one : goal.returns-in-None-label_of-clause-label_one
 returns-in-None-label_of-clause-label_one g c = λ source item is. absurd (c.in-None.ensures.none source item is)
+
+pub returns-in-None-label_of-clause-no_form : goal.returns-in-None-label_of-clause-no_form
+returns-in-None-label_of-clause-no_form g c =
+    λ two. record { no_label_one = c.in-None.ensures.none; no_label = c.in-None-label_of.ensures.none; no_run = c.run_or_usage.ensures.no_form two }

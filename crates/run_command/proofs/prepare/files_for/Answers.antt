@@ -1,5 +1,4 @@
 use Rattle.std.proofs.Common.{rules, ◌≡◌, sym, subst}
-use Rattle.data_layout.specs.declared.portfolio.FileUse.{FileUse}
 use Rattle.job_files.specs.Numbers.{AreApart}
 use Rattle.run_command.proofs.ApartLaws.{sound-apart}
 use Rattle.run_command.proofs.prepare.files_for.Goals as goal

@@ -1,4 +1,3 @@
-use Rattle.std.proofs.Common.{◌≡◌}
 use Rattle.run_command.proofs.Said.{manifest_answered, opened_answered}
 use Rattle.run_command.proofs.report.report_run.Goals as goal
 

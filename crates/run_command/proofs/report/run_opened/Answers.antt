@@ -1,4 +1,3 @@
-use Rattle.std.proofs.Common.{◌≡◌}
 use Rattle.run_command.proofs.JobLaws.{numbers-in, sound-numbers}
 use Rattle.run_command.proofs.Said.{prepared_answered, refusal_answered}
 use Rattle.run_command.proofs.report.run_opened.Goals as goal

@@ -1,4 +1,4 @@
-use Rattle.std.proofs.Common.{◌≡◌, length, sym, ap, ◌∙◌}
+use Rattle.std.proofs.Common.{length, sym, ap, ◌∙◌}
 use Rattle.gathered.specs.declared.gathering.Gathered.{Gathered}
 use Rattle.layout_reading.specs.Reading.{programs_of}
 use Rattle.seq_files.specs.Disks.{disks}

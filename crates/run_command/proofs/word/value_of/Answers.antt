@@ -1,4 +1,4 @@
-use Rattle.std.proofs.Common.{rules, ◌≡◌, ◌<◌, ◌+◌, ◌*◌, ◌^◌, arith}
+use Rattle.std.proofs.Common.{rules, ◌<◌, arith}
 use Rattle.decimal_bytes.proofs.PositionalLemmas.{fits-more}
 use Rattle.run_command.proofs.word.value_of.Goals as goal
 
