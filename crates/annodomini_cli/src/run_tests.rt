@@ -107,43 +107,51 @@ fn a_job_prints_what_it_shows_and_how_it_ends(rt: HostRuntime) -> Result<(), Fai
     Ok(())
 }
 
+/// What a job into O answers, where O/done is there, and the calls of these numbers fail.
+fn run_over(
+    alloc: Global,
+    job: &str,
+    programs: &str,
+    done: &str,
+    shelf_fault: u64,
+    sink_fault: u64,
+) -> Result<Answer, Fail> {
+    let main = manifest(alloc, programs, "[jobs]\nJ = [\"P\"]\nK = [\"Q\"]")?;
+    let text = program(alloc, "P", "", "")?;
+    let files = [
+        ("m.toml", main.as_str()),
+        ("P.cbl", text.as_str()),
+        ("O/done", done),
+    ];
+    let answer = run_failing(alloc, job, "100", &files, shelf_fault, sink_fault)?;
+    Ok(answer)
+}
+
 #[test]
 fn a_job_is_refused_by_name(rt: HostRuntime) -> Result<(), Fail> {
     let alloc = rt.alloc();
-    let main = manifest(alloc, "\"P.cbl\"", "[jobs]\nJ = [\"P\"]\nK = [\"Q\"]")?;
-    let clashing = manifest(alloc, "\"O/done\"", "[jobs]\nJ = [\"P\"]")?;
-    let text = program(alloc, "P", "", "")?;
-    let plain = [
-        ("m.toml", main.as_str()),
-        ("P.cbl", text.as_str()),
-        ("O/done", "done"),
-    ];
-    let taken = [
-        ("m.toml", main.as_str()),
-        ("P.cbl", text.as_str()),
-        ("O/done", "done\n"),
-    ];
-    let clash = [
-        ("m.toml", clashing.as_str()),
-        ("P.cbl", text.as_str()),
-        ("O/done", "done\n"),
-    ];
-    let cases: [(&str, &[(&str, &str)], u8, &str); 5] = [
-        ("J", &plain, 0, "P stopped\n"),
-        ("K", &plain, 3, "refused UnknownJob K\n"),
-        ("j", &plain, 3, "refused UnknownJob j\n"),
-        ("J", &taken, 3, "refused OutTaken O/done\n"),
-        ("J", &clash, 3, "refused OutClash O/done\n"),
+    let cases: [(&str, &str, &str, u8, &str); 5] = [
+        ("J", "\"P.cbl\"", "done", 0, "P stopped\n"),
+        ("K", "\"P.cbl\"", "done", 3, "refused UnknownJob K\n"),
+        ("j", "\"P.cbl\"", "done", 3, "refused UnknownJob j\n"),
+        ("J", "\"P.cbl\"", "done\n", 3, "refused OutTaken O/done\n"),
+        ("J", "\"O/done\"", "done\n", 3, "refused OutClash O/done\n"),
     ];
     for i in 0..cases.len() {
-        let (job, files, status, printed) = cases[i];
-        let got = run_failing(alloc, job, "100", files, 0, 0)?;
+        let (job, programs, done, status, printed) = cases[i];
+        let got = run_over(alloc, job, programs, done, 0, 0)?;
         assert_eq!(rt; got.printed.as_slice(), printed.as_bytes());
         assert_eq!(rt; got.status, status);
     }
-    let failed = run_failing(alloc, "J", "100", &plain, 1, 0)?;
+    Ok(())
+}
+
+#[test]
+fn a_fault_of_the_outside_ends_a_run(rt: HostRuntime) -> Result<(), Fail> {
+    let alloc = rt.alloc();
+    let failed = run_over(alloc, "J", "\"P.cbl\"", "", 1, 0)?;
     assert_eq!(rt; failed.status, 6);
-    let unprinted = run_failing(alloc, "J", "100", &plain, 0, 1)?;
+    let unprinted = run_over(alloc, "J", "\"P.cbl\"", "", 0, 1)?;
     assert_eq!(rt; unprinted.status, 7);
     Ok(())
 }
