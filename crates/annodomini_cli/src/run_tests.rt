@@ -118,10 +118,11 @@ fn run_over(
 ) -> Result<Answer, Fail> {
     let main = manifest(alloc, programs, "[jobs]\nJ = [\"P\"]\nK = [\"Q\"]")?;
     let text = program(alloc, "P", "", "")?;
+    let kept = String::from_str(alloc, done)?;
     let files = [
         ("m.toml", main.as_str()),
         ("P.cbl", text.as_str()),
-        ("O/done", done),
+        ("O/done", kept.as_str()),
     ];
     let answer = run_failing(alloc, job, "100", &files, shelf_fault, sink_fault)?;
     Ok(answer)
