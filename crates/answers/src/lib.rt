@@ -23,6 +23,9 @@ pub const USAGE: u8 = 2;
 /// An input has no reading.
 pub const REFUSED: u8 = 3;
 
+/// Something stands against the conversion.
+pub const LIMIT: u8 = 4;
+
 /// The shelf failed.
 pub const SHELF_FAULT: u8 = 6;
 
