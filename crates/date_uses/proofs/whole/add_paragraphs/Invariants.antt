@@ -1,0 +1,11 @@
+use Rattle.std.proofs.Common.{◌≡◌, ◌++◌, length}
+use Rattle.date_uses.specs.Uses as spec
+use Rattle.date_uses.proofs.whole.add_paragraphs.Given as goal
+
+abbrev pub invariant-loop-rest : goal.invariant-loop-rest
+invariant-loop-rest l =
+    l.uses ++ spec.paragraphs_uses l.labelling l.layout l.program l.words l.rest
+    ≡ l.fn.uses ++ spec.paragraphs_uses l.labelling l.layout l.program l.words l.paragraphs
+
+abbrev pub decreases-loop-rest : goal.decreases-loop-rest
+decreases-loop-rest l = length l.rest

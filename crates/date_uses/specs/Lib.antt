@@ -1,0 +1,5 @@
+pub mod Places
+pub mod Entries
+pub mod Conditions
+pub mod Statements
+pub mod Uses

@@ -1,0 +1,14 @@
+//! How the statements and entries of a portfolio use its data: moves, comparisons, sums, values, and each place that they name.
+#![tactic(auto)]
+
+mod conditions;
+mod entries;
+mod places;
+mod statements;
+#[cfg(test)]
+mod tests;
+mod uses;
+mod whole;
+
+pub use uses::{DateUse, MoveKind, UseForm, Used, UsedPlace};
+pub use whole::uses_of;
