@@ -1,0 +1,4 @@
+pub mod Covering
+pub mod Items
+pub mod Pictures
+pub mod Whole

@@ -1,0 +1,5 @@
+pub mod Roles
+pub mod Cuts
+pub mod Numerals
+pub mod Sums
+pub mod Limits
