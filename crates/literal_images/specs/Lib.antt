@@ -1,0 +1,5 @@
+pub mod Meetings
+pub mod Numbers
+pub mod Texts
+pub mod Images
+pub mod Limits
