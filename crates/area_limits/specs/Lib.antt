@@ -1,0 +1,5 @@
+pub mod Grown
+pub mod Extents
+pub mod Full
+pub mod Taken
+pub mod Whole

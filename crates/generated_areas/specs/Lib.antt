@@ -1,0 +1,4 @@
+pub mod Areas
+pub mod Dates
+pub mod Bridged
+pub mod Needs

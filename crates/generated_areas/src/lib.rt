@@ -1,0 +1,13 @@
+//! The areas that a program needs when it gets its years with their century: for the dates that it accepts, and for moves
+//! between a year in a window and one with a century.
+#![tactic(auto)]
+
+mod area;
+mod bridged;
+mod dates;
+mod needs;
+#[cfg(test)]
+mod tests;
+
+pub use area::GeneratedArea;
+pub use needs::generated_areas;
