@@ -27,12 +27,26 @@ IsLabelOne words source item = (words ≡ codes "label-one" ∷ source ∷ item 
 abbrev pub IsNoLabelOne : List (List ℕ) → Type 0
 IsNoLabelOne words = (source item : List ℕ) → IsLabelOne words source item → ⊥
 
+-- the words are a form of the command line that has the name of a manifest alone
+abbrev pub IsOfManifest : List ℕ → List (List ℕ) → List ℕ → Type 0
+IsOfManifest form words main = (words ≡ form ∷ main ∷ []) × (is_shelf_name main ≡ true)
+
+abbrev pub IsNotOfManifest : List ℕ → List (List ℕ) → Type 0
+IsNotOfManifest form words = (main : List ℕ) → IsOfManifest form words main → ⊥
+
 -- the words are `label M`
 abbrev pub IsLabel : List (List ℕ) → List ℕ → Type 0
-IsLabel words main = (words ≡ codes "label" ∷ main ∷ []) × (is_shelf_name main ≡ true)
+IsLabel words main = IsOfManifest (codes "label") words main
 
 abbrev pub IsNoLabel : List (List ℕ) → Type 0
-IsNoLabel words = (main : List ℕ) → IsLabel words main → ⊥
+IsNoLabel words = IsNotOfManifest (codes "label") words
+
+-- the words are `plan M`
+abbrev pub IsPlan : List (List ℕ) → List ℕ → Type 0
+IsPlan words main = IsOfManifest (codes "plan") words main
+
+abbrev pub IsNoPlan : List (List ℕ) → Type 0
+IsNoPlan words = IsNotOfManifest (codes "plan") words
 
 -- what `run` runs: a job of the portfolio of a manifest, on a day, for so many steps, and into a folder
 pub record IsTask (main date number out : List ℕ) (day : Day) (bound : ℕ) : Type 0 where
@@ -55,4 +69,5 @@ IsNoRun words = (main job : List ℕ) (day : Day) (bound : ℕ) (out : List ℕ)
 pub record HaveNoForm (words : List (List ℕ)) : Type 0 where
   pub no_label_one : IsNoLabelOne words
   pub no_label : IsNoLabel words
+  pub no_plan : IsNoPlan words
   pub no_run : IsNoRun words

@@ -1,5 +1,5 @@
 ghost use Rattle.std.specs.Prelude.{◌≡◌, ◌↔◌, IsTrue, IfSome, IfNone, map, string_bytes, codes};
-ghost use Rattle.annodomini_cli.specs.Command.{IsLabel, IsLabelOne, IsNoLabel, IsNoLabelOne, is_shelf_name, is_part_byte};
+ghost use Rattle.annodomini_cli.specs.Command.{IsOfManifest, IsLabelOne, IsNotOfManifest, IsNoLabelOne, is_shelf_name, is_part_byte};
 
 /// The words of `label-one SRC ITEM` after the form's own.
 #[derive(Clone, Copy)]
@@ -30,25 +30,26 @@ fn is_label_one(word: &str) -> bool
     word == "label-one"
 }
 
-/// The name of the manifest in the words of `label M`, where they have this form.
-pub fn label_of(words: &[String]) -> Option<&str>
-    ensures found { IfSome result (λ main. IsLabel (map string_bytes words.now) main.now) }
-    ensures none { IfNone result (IsNoLabel (map string_bytes words.now)) }
+/// The name of the manifest in the words of `label M`, of `plan M`, or of another form of one manifest, where they have this
+/// form.
+pub fn manifest_of<'a>(words: &'a [String], form: &str) -> Option<&'a str>
+    ensures found { IfSome result (λ main. IsOfManifest form.now (map string_bytes words.now) main.now) }
+    ensures none { IfNone result (IsNotOfManifest form.now (map string_bytes words.now)) }
 {
-    let [form, main] = words else {
+    let [word, main] = words else {
         return None;
     };
     let main = main.as_str();
-    if !is_label(form.as_str()) || !is_name(main.as_bytes()) {
+    if !is_form(word.as_str(), form) || !is_name(main.as_bytes()) {
         return None;
     }
     Some(main)
 }
 
-fn is_label(word: &str) -> bool
-    ensures { IsTrue result ↔ (word.now ≡ codes "label") }
+fn is_form(word: &str, form: &str) -> bool
+    ensures { IsTrue result ↔ (word.now ≡ form.now) }
 {
-    word == "label"
+    word == form
 }
 
 /// Whether the bytes are parts of letters, digits, points, hyphens and underscores joined by slashes, no

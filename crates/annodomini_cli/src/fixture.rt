@@ -10,10 +10,11 @@ pub(crate) struct Answer {
     pub(crate) printed: Vec<u8>,
 }
 
-/// What `label` of the manifest of that name answers and prints on a shelf with those of these files that have a byte,
-/// where the calls of these numbers fail.
-pub(crate) fn label_failing(
+/// What a form of one manifest answers and prints for that name on a shelf with those of these files that have a byte, where
+/// the calls of these numbers fail.
+pub(crate) fn over_manifest(
     alloc: Global,
+    form: &str,
     main: &str,
     files: &[(&str, &str)],
     shelf_fault: u64,
@@ -30,11 +31,23 @@ pub(crate) fn label_failing(
     let mut out = MemorySink::new(alloc)?;
     out.fail_on(sink_fault)?;
     let mut words = Vec::new(alloc);
-    words.push(String::from_str(alloc, "label")?)?;
+    words.push(String::from_str(alloc, form)?)?;
     words.push(String::from_str(alloc, main)?)?;
     let status = annodomini(alloc, words.as_slice(), &mut shelf, &mut out);
     let printed = out.bytes().to_vec(alloc)?;
     Ok(Answer { status, printed })
+}
+
+/// What `label` answers and prints so.
+pub(crate) fn label_failing(
+    alloc: Global,
+    main: &str,
+    files: &[(&str, &str)],
+    shelf_fault: u64,
+    sink_fault: u64,
+) -> Result<Answer, Fail> {
+    let answer = over_manifest(alloc, "label", main, files, shelf_fault, sink_fault)?;
+    Ok(answer)
 }
 
 /// The same of the manifest `m.toml`, where no call fails.

@@ -9,6 +9,8 @@ mod manifest_tests;
 #[cfg(test)]
 mod order_tests;
 #[cfg(test)]
+mod plan_tests;
+#[cfg(test)]
 mod portfolio_tests;
 #[cfg(test)]
 mod run_tests;

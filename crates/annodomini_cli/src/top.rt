@@ -3,15 +3,17 @@ ghost use Rattle.shelf.specs.Causes.{Rose};
 ghost use Rattle.answers.specs.Said.{IsSaid};
 ghost use Rattle.label_command.specs.Answer.{IsAnswered};
 ghost use Rattle.label_report.specs.Answer as report;
+ghost use Rattle.plan_command.specs.Answer as planning;
 ghost use Rattle.run_command.specs.Answer as running;
 ghost use Rattle.trial_run.specs.declared.day.Day as days;
-ghost use Rattle.annodomini_cli.specs.Command.{HaveNoForm, IsLabel, IsLabelOne, IsNoRun, IsRun};
+ghost use Rattle.annodomini_cli.specs.Command.{HaveNoForm, IsLabel, IsLabelOne, IsNoPlan, IsNoRun, IsPlan, IsRun};
 
-use crate::command::{label_of, label_one_of};
+use crate::command::{label_one_of, manifest_of};
 use crate::run_words::run_of;
 use answers::{USAGE, say};
 use label_command::label_one;
 use label_report::report_labels;
+use plan_command::report_plan;
 use run_command::report_run;
 use shelf::{Shelf, Sink};
 use std::alloc::Global;
@@ -37,6 +39,9 @@ pub fn annodomini<S: Shelf, K: Sink>(
     // The labels of the portfolio of a manifest, or its conflicts.
     ensures label { (main : List ℕ) → IsLabel (map string_bytes words.now) main → report.IsAnswered (report.IsAnswer main (S.told shelf.old)) (K.taken out.old) (K.taken out.new) result }
 
+    // What a conversion would change in the pictures of the portfolio of a manifest, or what stands against it.
+    ensures plan { (main : List ℕ) → IsPlan (map string_bytes words.now) main → report.IsAnswered (planning.IsAnswer main (S.told shelf.old)) (K.taken out.old) (K.taken out.new) result }
+
     // A fault of the outside is answered only where it came.
     ensures shelf_fault { result ≡ 6 → Rose (S.faults shelf.old) (S.faults shelf.new) }
     ensures sink_fault { result ≡ 7 → Rose (K.faults out.old) (K.faults out.new) }
@@ -50,10 +55,28 @@ pub fn annodomini<S: Shelf, K: Sink>(
 {
     match label_one_of(words) {
         Some(found) => label_one(alloc, found.source, found.item, shelf, out),
-        None => match label_of(words) {
+        None => match manifest_of(words, "label") {
             Some(main) => report_labels(alloc, main, shelf, out),
-            None => run_or_usage(alloc, words, shelf, out),
+            None => plan_or_run(alloc, words, shelf, out),
         },
+    }
+}
+
+/// Plans a conversion or runs a job, where the words ask for it, or prints the usage line.
+fn plan_or_run<S: Shelf, K: Sink>(alloc: Global, words: &[String], shelf: &mut S, out: &mut K) -> u8
+    ensures usage { IsNoPlan (map string_bytes words.now) → IsNoRun (map string_bytes words.now) → IsSaid 2 USAGE_LINE.now (K.taken out.old) (K.taken out.new) result }
+    ensures no_plan { result ≡ 2 → IsNoPlan (map string_bytes words.now) }
+    ensures no_run { result ≡ 2 → IsNoRun (map string_bytes words.now) }
+    ensures plan { (main : List ℕ) → IsPlan (map string_bytes words.now) main → report.IsAnswered (planning.IsAnswer main (S.told shelf.old)) (K.taken out.old) (K.taken out.new) result }
+    ensures run { (main : List ℕ) (job : List ℕ) (day : days.Day) (bound : ℕ) (into : List ℕ) → IsRun (map string_bytes words.now) main job day bound into →
+        running.IsAnswered (running.IsAnswer (S.told shelf.old) main job day bound into) (K.taken out.old) (K.taken out.new) (S.told shelf.new) result }
+    ensures shelf_fault { result ≡ 6 → Rose (S.faults shelf.old) (S.faults shelf.new) }
+    ensures sink_fault { result ≡ 7 → Rose (K.faults out.old) (K.faults out.new) }
+    ensures same { IsNoRun (map string_bytes words.now) → S.told shelf.new ≡ S.told shelf.old }
+{
+    match manifest_of(words, "plan") {
+        Some(main) => report_plan(alloc, main, shelf, out),
+        None => run_or_usage(alloc, words, shelf, out),
     }
 }
 

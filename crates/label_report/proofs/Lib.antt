@@ -1,2 +1,2 @@
-mod Causes
-mod Said
+pub mod Causes
+pub mod Said

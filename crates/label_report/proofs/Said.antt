@@ -13,7 +13,7 @@ use Rattle.shelf.specs.Causes.{Rose}
 use Rattle.shelf.specs.Contents.{Files}
 use Rattle.year_labels.specs.Facts.{IsClean}
 use Rattle.label_report.proofs.Causes.{form, manifest_form, manifest_shelf, rose}
-use Rattle.label_report.specs.Answer.{IsAnswer, IsAnswered, IsAnswerFor, IsReport, conflicts_text, labels_text}
+use Rattle.label_report.specs.Answer.{IsAnswerBy, IsAnswered, IsAnswerForBy, IsReport, conflicts_text, labels_text}
 
 -- a status that is neither 7 nor 8 is the wanted one
 said_is : (wanted k status : ℕ) (text : List ℕ) (before after : Option (List ℕ)) → (7 ≡ k → ⊥) → (8 ≡ k → ⊥)
@@ -40,32 +40,32 @@ pub conflict_rows_said : (opened : Opened) (l : Labelled) (before after : Option
 conflict_rows_said opened l before after text status unclean same (inl p) = inl (text, p.1, inr (unclean, p.0, same))
 conflict_rows_said opened l before after text status unclean same (inr fault) = inr fault
 
-pub report_answered : (told : Option Files) (opened : Opened) (l : Labelled) (before after : Option (List ℕ)) (status : ℕ) → IsLabelled told opened l
-    → IsAnswered (IsReport opened l) before after status → IsAnswered (IsAnswerFor told opened) before after status
-report_answered told opened l before after status is (inl (text, printed, report)) = inl (text, printed, inl (l, is, report))
-report_answered told opened l before after status is (inr fault) = inr fault
+pub report_answered : (Report : Opened → Labelled → ℕ → List ℕ → Type 0) (told : Option Files) (opened : Opened) (l : Labelled) (before after : Option (List ℕ)) (status : ℕ) → IsLabelled told opened l
+    → IsAnswered (Report opened l) before after status → IsAnswered (IsAnswerForBy Report told opened) before after status
+report_answered Report told opened l before after status is (inl (text, printed, report)) = inl (text, printed, inl (l, is, report))
+report_answered Report told opened l before after status is (inr fault) = inr fault
 
-pub refusal_answered : (told : Option Files) (opened : Opened) (r : Refusal) (before after : Option (List ℕ)) (status : ℕ) → HasRefusal told opened r
-    → IsSaid (status_of r) (line_of opened r) before after status → IsAnswered (IsAnswerFor told opened) before after status
-refusal_answered told opened r before after status cause (inl p) = inl (line_of opened r, p.1, inr (r, cause, p.0, refl))
-refusal_answered told opened r before after status cause (inr fault) = inr fault
+pub refusal_answered : (Report : Opened → Labelled → ℕ → List ℕ → Type 0) (told : Option Files) (opened : Opened) (r : Refusal) (before after : Option (List ℕ)) (status : ℕ) → HasRefusal told opened r
+    → IsSaid (status_of r) (line_of opened r) before after status → IsAnswered (IsAnswerForBy Report told opened) before after status
+refusal_answered Report told opened r before after status cause (inl p) = inl (line_of opened r, p.1, inr (r, cause, p.0, refl))
+refusal_answered Report told opened r before after status cause (inr fault) = inr fault
 
-told_answered : (main : List ℕ) (told : Option Files) (opened : Opened) (before after : Option (List ℕ)) (status : ℕ) → IsOpened main told opened
-    → IsAnswered (IsAnswerFor told opened) before after status → IsAnswered (IsAnswer main told) before after status
-told_answered main told opened before after status is (inl (text, printed, answer)) = inl (text, printed, inl (opened, is, answer))
-told_answered main told opened before after status is (inr fault) = inr fault
+told_answered : (Report : Opened → Labelled → ℕ → List ℕ → Type 0) (main : List ℕ) (told : Option Files) (opened : Opened) (before after : Option (List ℕ)) (status : ℕ) → IsOpened main told opened
+    → IsAnswered (IsAnswerForBy Report told opened) before after status → IsAnswered (IsAnswerBy Report main told) before after status
+told_answered Report main told opened before after status is (inl (text, printed, answer)) = inl (text, printed, inl (opened, is, answer))
+told_answered Report main told opened before after status is (inr fault) = inr fault
 
 -- a manifest that was opened changes nothing of what is told
-pub opened_answered : (main : List ℕ) (told now : Option Files) (opened : Opened) (before after : Option (List ℕ)) (status : ℕ) → now ≡ told → IsOpened main told opened
-    → IsAnswered (IsAnswerFor now opened) before after status → IsAnswered (IsAnswer main told) before after status
-opened_answered main told now opened before after status same is answer =
-    told_answered main told opened before after status is
-    (subst (λ (t : Option Files). IsAnswered (IsAnswerFor t opened) before after status) same answer)
+pub opened_answered : (Report : Opened → Labelled → ℕ → List ℕ → Type 0) (main : List ℕ) (told now : Option Files) (opened : Opened) (before after : Option (List ℕ)) (status : ℕ) → now ≡ told → IsOpened main told opened
+    → IsAnswered (IsAnswerForBy Report now opened) before after status → IsAnswered (IsAnswerBy Report main told) before after status
+opened_answered Report main told now opened before after status same is answer =
+    told_answered Report main told opened before after status is
+    (subst (λ (t : Option Files). IsAnswered (IsAnswerForBy Report t opened) before after status) same answer)
 
-pub manifest_answered : (main : List ℕ) (told : Option Files) (r : ManifestRefusal) (before after : Option (List ℕ)) (status : ℕ) → HasManifestRefusal main told r
-    → IsSaid (manifest_status r) (manifest_line main r) before after status → IsAnswered (IsAnswer main told) before after status
-manifest_answered main told r before after status cause (inl p) = inl (manifest_line main r, p.1, inr (r, cause, p.0, refl))
-manifest_answered main told r before after status cause (inr fault) = inr fault
+pub manifest_answered : (Report : Opened → Labelled → ℕ → List ℕ → Type 0) (main : List ℕ) (told : Option Files) (r : ManifestRefusal) (before after : Option (List ℕ)) (status : ℕ) → HasManifestRefusal main told r
+    → IsSaid (manifest_status r) (manifest_line main r) before after status → IsAnswered (IsAnswerBy Report main told) before after status
+manifest_answered Report main told r before after status cause (inl p) = inl (manifest_line main r, p.1, inr (r, cause, p.0, refl))
+manifest_answered Report main told r before after status cause (inr fault) = inr fault
 
 pub refusal_rose : (opened : Opened) (r : Refusal) (before after : Option (List ℕ)) (status was now : ℕ) → IsSaid (status_of r) (line_of opened r) before after status
     → RoseBy r was now → status ≡ 6 → Rose was now

@@ -28,17 +28,27 @@ IsReport opened l status text =
     (IsClean l.labels.labelling × (status ≡ 0) × (text ≡ labels_text l))
     ⊎ ((IsClean l.labels.labelling → ⊥) × (status ≡ 1) × (text ≡ conflicts_text opened l))
 
--- the rows of the manifest's labelled portfolio, or the line of a refusal that has its cause
-abbrev pub IsAnswerFor : Option Files → Opened → ℕ → List ℕ → Type 0
-IsAnswerFor told opened status text =
-    ((l : Labelled) × IsLabelled told opened l × IsReport opened l status text)
+-- What a command answers that reports of a labelled portfolio.
+
+-- what it says of the manifest's labelled portfolio, or the line of a refusal that has its cause
+abbrev pub IsAnswerForBy : (Opened → Labelled → ℕ → List ℕ → Type 0) → Option Files → Opened → ℕ → List ℕ → Type 0
+IsAnswerForBy Report told opened status text =
+    ((l : Labelled) × IsLabelled told opened l × Report opened l status text)
     ⊎ ((r : Refusal) × HasRefusal told opened r × (status ≡ lines.status_of r) × (text ≡ lines.line_of opened r))
 
 -- the same, or the line that there is no such manifest
-abbrev pub IsAnswer : List ℕ → Option Files → ℕ → List ℕ → Type 0
-IsAnswer main told status text =
-    ((opened : Opened) × IsOpened main told opened × IsAnswerFor told opened status text)
+abbrev pub IsAnswerBy : (Opened → Labelled → ℕ → List ℕ → Type 0) → List ℕ → Option Files → ℕ → List ℕ → Type 0
+IsAnswerBy Report main told status text =
+    ((opened : Opened) × IsOpened main told opened × IsAnswerForBy Report told opened status text)
     ⊎ ((r : ManifestRefusal) × HasManifestRefusal main told r × (status ≡ lines.manifest_status r) × (text ≡ lines.manifest_line main r))
+
+-- the rows of the manifest's labelled portfolio, or the line of a refusal that has its cause
+abbrev pub IsAnswerFor : Option Files → Opened → ℕ → List ℕ → Type 0
+IsAnswerFor told opened status text = IsAnswerForBy IsReport told opened status text
+
+-- the same, or the line that there is no such manifest
+abbrev pub IsAnswer : List ℕ → Option Files → ℕ → List ℕ → Type 0
+IsAnswer main told status text = IsAnswerBy IsReport main told status text
 
 -- such an answer is printed, or else the sink failed (7) or memory ran out (8)
 abbrev pub IsAnswered : (ℕ → List ℕ → Type 0) → Option (List ℕ) → Option (List ℕ) → ℕ → Type 0

@@ -73,7 +73,8 @@ fn labels_text(alloc: Global, labelled: &Labelled) -> Result<Bytes, Memory>
     Ok(text)
 }
 
-fn conflicts_text(alloc: Global, opened: &Opened, labelled: &Labelled) -> Result<Bytes, Memory>
+/// The rows of the conflicts of a labelled portfolio.
+pub fn conflicts_text(alloc: Global, opened: &Opened, labelled: &Labelled) -> Result<Bytes, Memory>
     ensures { IfOk result (λ text. text ≡ spec.conflicts_text opened.now labelled.now) }
 {
     let seeds = text_of(seeds_name(&opened.manifest))?;

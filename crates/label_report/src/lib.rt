@@ -3,4 +3,4 @@
 
 mod command;
 
-pub use command::report_labels;
+pub use command::{conflicts_text, report_labels};

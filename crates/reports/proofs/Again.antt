@@ -1,5 +1,5 @@
 -- The reports are read again as their rows.
-use Rattle.std.proofs.Common.{◌≡◌, ◌≤◌, ◌+◌, ◌++◌, ◌∷◌, [], ℕ, List, Some, None, length, map, refl, sym, ap, ◌∙◌, subst, arith}
+use Rattle.std.proofs.Common.{◌≡◌, ◌≤◌, ◌+◌, ◌++◌, ◌∷◌, [], ℕ, List, Some, None, true, false, slice_get, length, map, refl, sym, ap, ◌∙◌, subst, arith}
 use Rattle.std.specs.List.{AllByRecursion}
 use Rattle.csv.proofs.RoundTrip.{read-write}
 use Rattle.csv.specs.Machine.{next_record}
@@ -12,6 +12,17 @@ use Rattle.reports.proofs.Csv.{default_row}
 use Rattle.reports.specs.Conflicts.{Known, conflict_header, rows_from, side_rows}
 use Rattle.reports.specs.Labels.{label_header, label_row}
 use Rattle.reports.specs.Rows.{ReadsAs, row_text, rows_text}
+use Rattle.std.specs.List.{flat_map}
+use Rattle.std.specs.Prelude.{Option}
+use Rattle.y2k_base.specs.declared.text.Text.{Text}
+use Rattle.cobol_syntax.specs.declared.program.Program.{Program}
+use Rattle.data_layout.specs.declared.item.Item.{Item}
+use Rattle.data_layout.specs.declared.portfolio.Portfolio.{Portfolio}
+use Rattle.window_modes.specs.declared.modes.YearMode.{YearMode}
+use Rattle.year_index.specs.Years.{years_in}
+use Rattle.reports.specs.declared.items.ItemStart.{ItemStart}
+use Rattle.std.specs.Prelude.{Bool}
+use Rattle.reports.specs.Plans.{row_of, row_if, rows_if, rows_at, item_at, plan_table, are_windowed, row_by}
 use Rattle.reports.specs.declared.names.AreaName.{AreaName}
 
 abbrev IsLong : List (List ℕ) → Type 0
@@ -69,3 +80,31 @@ unfolding strip_bom
 conflicts_again known conflicts text e =
     let rows : List (List (List ℕ)) = conflict_header ∷ rows_from known 1 conflicts in
     subst (λ (t : List ℕ). ReadsAs t rows) (sym e) (reads_as rows refl (omega arith, long_rows known 1 conflicts))
+
+long_if : (modes : List YearMode) (row : List (List ℕ)) → IsLong row → AreLong (row_if modes row)
+long_if [] row long = tt
+long_if (mode ∷ modes) row long = (long, tt)
+
+long_by : (texts : List Text) (program : Program) (modes : List YearMode) (item : Item) (windowed : Bool) → IsLong (row_by texts program modes item windowed)
+long_by texts program modes item true = omega arith
+long_by texts program modes item false = omega arith
+
+long_row : (texts : List Text) (program : Program) (modes : List YearMode) (item : Item) → IsLong (row_of texts program modes item)
+long_row texts program modes item = long_by texts program modes item (are_windowed (years_in modes item.span))
+
+long_found : (texts : List Text) (program : Option Program) (modes : List YearMode) (item : Option Item) → AreLong (rows_if texts program modes item)
+long_found texts None modes item = tt
+long_found texts (Some program) modes None = tt
+long_found texts (Some program) modes (Some item) = long_if (years_in modes item.span) (row_of texts program modes item) (long_row texts program modes item)
+
+long_starts : (texts : List Text) (portfolio : Portfolio) (modes : List YearMode) (starts : List ItemStart) → AreLong (flat_map (rows_at texts portfolio modes) starts)
+long_starts texts portfolio modes [] = tt
+long_starts texts portfolio modes (start ∷ starts) =
+    long_both _ _ (long_found texts (slice_get portfolio.programs start.program) modes (item_at portfolio.layouts start)) (long_starts texts portfolio modes starts)
+
+pub plan_again : (texts : List Text) (portfolio : Portfolio) (modes : List YearMode) (starts : List ItemStart) (text : List ℕ) → text ≡ rows_text (plan_table texts portfolio modes starts)
+    → ReadsAs text (plan_table texts portfolio modes starts)
+unfolding strip_bom
+plan_again texts portfolio modes starts text e =
+    let rows : List (List (List ℕ)) = plan_table texts portfolio modes starts in
+    subst (λ (t : List ℕ). ReadsAs t rows) (sym e) (reads_as rows refl (omega arith, long_starts texts portfolio modes starts))

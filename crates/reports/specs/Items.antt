@@ -8,6 +8,7 @@ use Rattle.y2k_base.specs.declared.word.WordKind.{WordKind}
 use Rattle.y2k_base.specs.declared.word.WordKind.TheVariants as word
 use Rattle.cobol_syntax.specs.declared.program.Program.{Program}
 use Rattle.data_layout.specs.declared.item.Item.{Item}
+use Rattle.data_layout.specs.declared.item.Layout.{Layout}
 use Rattle.reports.specs.declared.items.ItemStart.{ItemStart}
 use Rattle.reports.specs.Names.{name_text}
 use Rattle.reports.specs.Places.{place_text}
@@ -41,12 +42,19 @@ item_row texts program item mode new =
 
 -- by the first byte, and then by the entry
 abbrev pub start_cmp : ItemStart → ItemStart → Ordering
-start_cmp a b = ordering_then (nat_cmp a.area b.area) (ordering_then (nat_cmp a.offset b.offset) (nat_cmp a.item b.item))
+start_cmp a b =
+    ordering_then (nat_cmp a.area b.area) (ordering_then (nat_cmp a.offset b.offset) (ordering_then (nat_cmp a.program b.program) (nat_cmp a.item b.item)))
 
-abbrev pub start_of : ℕ → Item → ItemStart
-start_of number item = record { area = item.span.area.0; offset = item.span.offset; item = number }
+abbrev pub start_of : ℕ → ℕ → Item → ItemStart
+start_of program number item = record { area = item.span.area.0; offset = item.span.offset; program = program; item = number }
 
--- the elementary items, the first of which has this number
-abbrev pub starts_from : ℕ → List Item → List ItemStart
-starts_from number [] = []
-starts_from number (item ∷ items) = (if is_some item.picture then start_of number item ∷ [] else []) ++ starts_from (number + 1) items
+-- the elementary items of a program, the first of which has this number
+abbrev pub starts_from : ℕ → ℕ → List Item → List ItemStart
+starts_from program number [] = []
+starts_from program number (item ∷ items) =
+    (if is_some item.picture then start_of program number item ∷ [] else []) ++ starts_from program (number + 1) items
+
+-- those of all programs, the first of which has this number
+abbrev pub starts_in : ℕ → List Layout → List ItemStart
+starts_in program [] = []
+starts_in program (layout ∷ layouts) = starts_from program 0 layout.items ++ starts_in (program + 1) layouts

@@ -4,3 +4,5 @@ pub mod Places
 pub mod Labels
 pub mod Conflicts
 pub mod Items
+pub mod Limits
+pub mod Plans

@@ -153,14 +153,30 @@ fn items_go_by_their_first_bytes(rt: HostRuntime) -> Result<(), Fail> {
         (5, None, None, Some(("9999", 4))),
     ];
     let program = program_of(alloc, "P", &entries)?;
-    let layout = lay_out(alloc, &program, AreaId(3))?;
-    let starts = elementary_items(alloc, layout.items.items())?;
-    let expected = [(0, 1), (0, 4), (2, 2), (2, 5)];
-    assert!(rt; starts.len() == 4);
+    let mut layouts = List::new(alloc);
+    layouts.push(lay_out(alloc, &program, AreaId(3))?)?;
+    layouts.push(lay_out(alloc, &program, AreaId(1))?)?;
+    let starts = elementary_items(alloc, layouts.items())?;
+    let expected = [
+        (1, 0, 1, 1),
+        (1, 0, 1, 4),
+        (1, 2, 1, 2),
+        (1, 2, 1, 5),
+        (3, 0, 0, 1),
+        (3, 0, 0, 4),
+        (3, 2, 0, 2),
+        (3, 2, 0, 5),
+    ];
+    assert!(rt; starts.len() == 8);
     for i in 0..expected.len() {
-        let (offset, item) = expected[i];
-        let area = 3;
-        assert!(rt; starts.get(i).copied() == Some(ItemStart { area, offset, item }));
+        let (area, offset, program, item) = expected[i];
+        let start = ItemStart {
+            area,
+            offset,
+            program,
+            item,
+        };
+        assert!(rt; starts.get(i).copied() == Some(start));
     }
     Ok(())
 }
@@ -175,10 +191,14 @@ fn an_item_has_its_place_and_its_picture_as_written(rt: HostRuntime) -> Result<(
         (5, None, None, Some(("9(04)", 4))),
     ];
     let program = program_of(alloc, "P5", &entries)?;
-    let layout = lay_out(alloc, &program, AreaId(0))?;
+    let mut layouts = List::new(alloc);
+    layouts.push(lay_out(alloc, &program, AreaId(0))?)?;
     let texts = texts(alloc, &["B.cpy", "P5.cbl"])?;
+    let starts = elementary_items(alloc, layouts.items())?;
+    let [layout] = layouts.items() else {
+        return Ok(());
+    };
     let items = layout.items.items();
-    let starts = elementary_items(alloc, items)?;
     let mut rows = Rows::new(alloc);
     push_header(&mut rows)?;
     let list = texts.list.items();

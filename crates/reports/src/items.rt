@@ -7,41 +7,56 @@ use crate::names::name_text;
 use crate::places::push_place;
 use crate::rows::Rows;
 use cobol_syntax::Program;
-use data_layout::Item;
+use data_layout::{Item, Layout};
 use std::alloc::Global;
 use y2k_base::{Bytes, List, Memory, Text, Word, WordKind};
 
-/// Where an item begins, and its number in its program.
+/// Where an item begins, the number of its program, and its own in its program.
 #[derive(Clone, Copy, Debug, PartialEq, Eq, PartialOrd, Ord)]
 pub(crate) struct ItemStart {
     pub(crate) area: u32,
     pub(crate) offset: u32,
+    pub(crate) program: usize,
     pub(crate) item: usize,
 }
 
-/// The elementary items of a program, by their first bytes; of those that begin at one byte, in the order of their
-/// entries.
-pub(crate) fn elementary_items(alloc: Global, items: &[Item]) -> Result<Vec<ItemStart>, Memory>
-    ensures same { IfOk result (λ starts. IsPermutation (spec.starts_from 0 items.now) starts.items) }
+/// The elementary items of programs with these layouts, by their first bytes; of those that begin at one byte, in the order
+/// of their entries.
+pub(crate) fn elementary_items(alloc: Global, layouts: &[Layout]) -> Result<Vec<ItemStart>, Memory>
+    ensures same { IfOk result (λ starts. IsPermutation (spec.starts_in 0 layouts.now) starts.items) }
     ensures sorted { IfOk result (λ starts. IsSorted spec.start_cmp starts.items) }
 {
-    let mut starts = starts_of(alloc, items)?;
+    let mut starts = starts_in(alloc, layouts)?;
     starts.sort()?;
     Ok(starts)
 }
 
-fn starts_of(alloc: Global, items: &[Item]) -> Result<Vec<ItemStart>, Memory>
-    ensures { IfOk result (λ starts. starts.items ≡ spec.starts_from 0 items.now) }
+fn starts_in(alloc: Global, layouts: &[Layout]) -> Result<Vec<ItemStart>, Memory>
+    ensures { IfOk result (λ starts. starts.items ≡ spec.starts_in 0 layouts.now) }
 {
     let mut starts = Vec::new(alloc);
-    for i in 0..items.len() {
-        add_start(&mut starts, i, &items[i])?;
+    for program in 0..layouts.len() {
+        add_starts(&mut starts, program, layouts[program].items.items())?;
     }
     Ok(starts)
 }
 
-fn add_start(starts: &mut Vec<ItemStart>, number: usize, item: &Item) -> Result<(), Memory>
-    ensures { OnOk result (starts.new.items ≡ starts.old.items ++ (if is_some item.now.picture then spec.start_of number item.now ∷ [] else [])) }
+fn add_starts(starts: &mut Vec<ItemStart>, program: usize, items: &[Item]) -> Result<(), Memory>
+    ensures { OnOk result (starts.new.items ≡ starts.old.items ++ spec.starts_from program 0 items.now) }
+{
+    for i in 0..items.len() {
+        add_start(starts, program, i, &items[i])?;
+    }
+    Ok(())
+}
+
+fn add_start(
+    starts: &mut Vec<ItemStart>,
+    program: usize,
+    number: usize,
+    item: &Item,
+) -> Result<(), Memory>
+    ensures { OnOk result (starts.new.items ≡ starts.old.items ++ (if is_some item.now.picture then spec.start_of program number item.now ∷ [] else [])) }
 {
     if item.picture.is_none() {
         return Ok(());
@@ -49,6 +64,7 @@ fn add_start(starts: &mut Vec<ItemStart>, number: usize, item: &Item) -> Result<
     let start = ItemStart {
         area: item.span.area.0,
         offset: item.span.offset,
+        program,
         item: number,
     };
     starts.push(start)?;
@@ -108,7 +124,7 @@ fn word_place(alloc: Global, texts: &[Text], words: &[Word], at: u32) -> Result<
 }
 
 /// The first PICTURE word from a position on.
-fn picture_from(words: &[Word], at: u32) -> &[u8]
+pub(crate) fn picture_from(words: &[Word], at: u32) -> &[u8]
     ensures { result.now ≡ spec.first_picture (drop at words.now) }
 {
     let at = at as usize;

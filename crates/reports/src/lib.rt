@@ -6,11 +6,15 @@ mod conflicts;
 mod item_tests;
 mod items;
 mod labels;
+mod limit;
 mod names;
 mod places;
+mod plan;
 mod rows;
 #[cfg(test)]
 mod tests;
 
 pub use conflicts::conflict_rows;
 pub use labels::label_rows;
+pub use limit::limit_line;
+pub use plan::plan_rows;

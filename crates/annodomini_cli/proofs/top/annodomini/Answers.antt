@@ -3,6 +3,7 @@ use Rattle.shelf.specs.Contents.{Files}
 use Rattle.label_command.specs.Answer.{IsAnswered}
 use Rattle.label_report.specs.Answer as report
 use Rattle.annodomini_cli.specs.Command.{IsLabel, IsLabelOne}
+use Rattle.annodomini_cli.proofs.Forms.{label_one_or, label_or_plan, manifest_or}
 use Rattle.annodomini_cli.proofs.top.annodomini.Goals as goal
 
 abbrev second : List (List ℕ) → List ℕ
@@ -12,13 +13,6 @@ second _ = []
 abbrev third : List (List ℕ) → List ℕ
 third (a ∷ b ∷ c ∷ ws) = c
 third _ = []
-
-two_or_three : (a b d e f : List ℕ) → a ∷ b ∷ [] ≡ d ∷ e ∷ f ∷ [] → ⊥
-two_or_three a b d e f is = cc
-
--- no words have both forms
-pub one_form : (words : List (List ℕ)) (source item main : List ℕ) → IsLabelOne words source item → IsLabel words main → ⊥
-one_form words source item main is so = two_or_three _ _ _ _ _ (sym so.0 ∙ is.0)
 
 -- words that are one form in two ways are so in one way
 same-form : (words : List (List ℕ)) (source item other object : List ℕ) (told : Option Files) (before after : Option (List ℕ)) (status : ℕ)
@@ -41,15 +35,25 @@ pub returns-in-Some-clause-label_one : goal.returns-in-Some-clause-label_one
 returns-in-Some-clause-label_one g c = λ source item is. same-form _ _ _ source item _ _ _ _ c.in-Some.ensures.found is c.label_one.ensures.answer
 
 pub returns-in-Some-clause-label : goal.returns-in-Some-clause-label
-returns-in-Some-clause-label g c = λ main is. absurd (one_form _ _ _ main c.in-Some.ensures.found is)
+returns-in-Some-clause-label g c = λ main is. absurd (label_one_or _ _ _ _ main c.in-Some.ensures.found is)
 
-pub returns-in-Some-label_of-clause-label : goal.returns-in-Some-label_of-clause-label
-returns-in-Some-label_of-clause-label g c =
-    λ main is. same-label _ _ main _ _ _ _ c.in-Some-label_of.ensures.found is c.report_labels.ensures.answer
+pub returns-in-Some-manifest_of-clause-label : goal.returns-in-Some-manifest_of-clause-label
+returns-in-Some-manifest_of-clause-label g c =
+    λ main is. same-label _ _ main _ _ _ _ c.in-Some-manifest_of.ensures.found is c.report_labels.ensures.answer
 
-pub returns-in-None-label_of-clause-label_one : goal.returns-in-None-label_of-clause-label_one
-returns-in-None-label_of-clause-label_one g c = λ source item is. absurd (c.in-None.ensures.none source item is)
+pub returns-in-None-manifest_of-clause-label_one : goal.returns-in-None-manifest_of-clause-label_one
+returns-in-None-manifest_of-clause-label_one g c = λ source item is. absurd (c.in-None.ensures.none source item is)
 
-pub returns-in-None-label_of-clause-no_form : goal.returns-in-None-label_of-clause-no_form
-returns-in-None-label_of-clause-no_form g c =
-    λ two. record { no_label_one = c.in-None.ensures.none; no_label = c.in-None-label_of.ensures.none; no_run = c.run_or_usage.ensures.no_form two }
+pub returns-in-Some-clause-plan : goal.returns-in-Some-clause-plan
+returns-in-Some-clause-plan g c = λ main is. absurd (label_one_or _ _ _ _ main c.in-Some.ensures.found is)
+
+pub returns-in-Some-manifest_of-clause-plan : goal.returns-in-Some-manifest_of-clause-plan
+returns-in-Some-manifest_of-clause-plan g c = λ main is. absurd (manifest_or _ _ _ _ main label_or_plan c.in-Some-manifest_of.ensures.found is)
+
+pub returns-in-None-manifest_of-clause-no_form : goal.returns-in-None-manifest_of-clause-no_form
+returns-in-None-manifest_of-clause-no_form g c = λ two. record {
+  no_label_one = c.in-None.ensures.none;
+  no_label = c.in-None-manifest_of.ensures.none;
+  no_plan = c.plan_or_run.ensures.no_plan two;
+  no_run = c.plan_or_run.ensures.no_run two;
+}
