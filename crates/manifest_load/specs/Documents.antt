@@ -58,11 +58,11 @@ IsRefusedText bytes (refusal.At kind key) = (tree : Members) × IsDocument bytes
 IsRefusedText bytes refusal.Shelf = ⊥
 IsRefusedText bytes refusal.Memory = Unit {0}
 
--- the shelf holds a manifest of that name, which says this; the folder and the length are those of its file
+-- the shelf holds a manifest of that name, which says this; the folder, the length and the bytes are those of its file
 abbrev pub IsOpened : List ℕ → Option Files → Opened → Type 0
 IsOpened name told opened =
     (bytes : List ℕ) × HasText name 0 bytes told × IsSaying bytes opened.manifest
-    × (opened.length ≡ length bytes) × (string_bytes opened.folder ≡ folder_of name)
+    × (opened.length ≡ length bytes) × (string_bytes opened.folder ≡ folder_of name) × (opened.text ≡ bytes)
 
 -- why the shelf holds no manifest of that name
 abbrev pub HasManifestRefusal : List ℕ → Option Files → ManifestRefusal → Type 0

@@ -12,13 +12,14 @@ use std::alloc::Global;
 use std::str;
 use text_load::load;
 use toml::{Table, table_from_str};
-use y2k_base::Memory;
+use y2k_base::{Bytes, Memory};
 
-/// A manifest with its file's folder, which is empty or ends in `/`, and length.
+/// A manifest with its file's folder, which is empty or ends in `/`, its length, and its bytes.
 pub struct Opened {
     pub manifest: Manifest,
     pub folder: String,
     pub length: u64,
+    pub text: Bytes,
 }
 
 impl Drop for Opened {
@@ -27,6 +28,7 @@ impl Drop for Opened {
             manifest: _manifest,
             folder: _folder,
             length: _,
+            text: _text,
         } = self;
     }
 }
@@ -46,7 +48,7 @@ pub fn open_manifest<S: Shelf>(
 {
     match load(alloc, name, 0, shelf) {
         Ok(bytes) => match manifest_in(alloc, bytes.items()) {
-            Ok(manifest) => opened_of(alloc, name, bytes.len() as u64, manifest),
+            Ok(manifest) => opened_of(alloc, name, bytes, manifest),
             Err(refusal) => Err(refusal),
         },
         Err(fault) => Err(unloaded(fault)),
@@ -56,19 +58,21 @@ pub fn open_manifest<S: Shelf>(
 fn opened_of(
     alloc: Global,
     name: &str,
-    length: u64,
+    text: Bytes,
     manifest: Manifest,
 ) -> Result<Opened, ManifestRefusal>
     ensures manifest { IfOk result (λ opened. opened.manifest ≡ manifest) }
     ensures folder { IfOk result (λ opened. string_bytes opened.folder ≡ folder.folder_of name.now) }
-    ensures length { IfOk result (λ opened. opened.length ≡ length) }
+    ensures length { IfOk result (λ opened. opened.length ≡ length text) }
+    ensures text { IfOk result (λ opened. opened.text ≡ text) }
     ensures refusal { IfErr result (λ refusal. refusal ≡ ManifestRefusal.Memory) }
 {
     match text_of(alloc, folder_of(name.as_bytes())) {
         Ok(folder) => Ok(Opened {
             manifest,
             folder,
-            length,
+            length: text.len() as u64,
+            text,
         }),
         Err(_) => Err(ManifestRefusal::Memory),
     }

@@ -3,14 +3,15 @@ ghost use Rattle.std.specs.List.{AllByRecursion};
 ghost use Rattle.data_layout.specs.Index.{IsReady};
 ghost use Rattle.shelf.specs.Causes.{Rose};
 ghost use Rattle.year_labels.specs.Facts.{IsClean};
-ghost use Rattle.convert_plan.specs.Plans.{HasPlanFault, IsPlanOf};
+ghost use Rattle.convert_plan.specs.Plans.{IsPlanOf};
+ghost use Rattle.text_conversion.specs.Faults.{HasConversionFault};
 ghost use Rattle.label_report.specs.Answer as labels;
 ghost use Rattle.reports.specs.Limits as limits;
 ghost use Rattle.reports.specs.Plans as plans;
 ghost use Rattle.plan_command.specs.Answer as spec;
 
 use answers::{CONFLICT, DONE, LIMIT, NO_MEMORY, say};
-use convert_plan::{Plan, PlanFault, make_plan};
+use convert_plan::{Plan, PlanFault};
 use label_report::conflicts_text;
 use labelled_portfolio::{Labelled, label_portfolio};
 use manifest_load::{Opened, open_manifest};
@@ -19,6 +20,7 @@ use refusal_lines::{refuse, refuse_manifest};
 use reports::{limit_line, plan_rows};
 use shelf::{Shelf, Sink};
 use std::alloc::Global;
+use text_conversion::convert_portfolio;
 use y2k_base::{Bytes, Memory};
 
 /// Prints the rows of the plan of that manifest's portfolio, or, where something stands against its conversion, the line of
@@ -82,15 +84,14 @@ fn report_clean<K: Sink>(alloc: Global, labelled: &Labelled, out: &mut K) -> u8
     ensures inside { result ≢ 6 }
     ensures sink_fault { result ≡ 7 → Rose (K.faults out.old) (K.faults out.new) }
 {
-    let portfolio = &labelled.seeded.gathered.portfolio;
-    match make_plan(
+    match convert_portfolio(
         alloc,
-        portfolio,
+        &labelled.seeded.gathered,
         &labelled.labels.labelling,
         &labelled.windows,
     ) {
-        Ok(plan) => report_rows(alloc, labelled, &plan, out),
-        Err(fault) => report_fault(alloc, labelled, &fault, out),
+        Ok(conversion) => report_rows(alloc, labelled, &conversion.plan, out),
+        Err(fault) => report_limit(alloc, labelled, &fault, out),
     }
 }
 
@@ -108,9 +109,14 @@ fn report_rows<K: Sink>(alloc: Global, labelled: &Labelled, plan: &Plan, out: &m
     }
 }
 
-/// Prints the limit for which there is no plan.
-fn report_fault<K: Sink>(alloc: Global, labelled: &Labelled, fault: &PlanFault, out: &mut K) -> u8
-    requires { HasPlanFault labelled.now.labels.labelling labelled.now.seeded.gathered.portfolio labelled.now.windows fault.now }
+/// Prints the limit that stands against a conversion.
+pub fn report_limit<K: Sink>(
+    alloc: Global,
+    labelled: &Labelled,
+    fault: &PlanFault,
+    out: &mut K,
+) -> u8
+    requires { HasConversionFault labelled.now.labels.labelling labelled.now.seeded.gathered.portfolio labelled.now.windows fault.now }
     ensures answer { labels.IsAnswered (spec.IsPlanned labelled.now) (K.taken out.old) (K.taken out.new) result }
     ensures form { result ≢ 2 }
     ensures inside { result ≢ 6 }

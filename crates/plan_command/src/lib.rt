@@ -4,4 +4,4 @@
 
 mod command;
 
-pub use command::report_plan;
+pub use command::{report_limit, report_plan};

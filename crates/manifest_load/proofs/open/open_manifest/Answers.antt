@@ -1,4 +1,4 @@
 use Rattle.manifest_load.proofs.open.open_manifest.Goals as goal
 
-pub returns-clause-refusal : goal.returns-clause-refusal
-returns-clause-refusal g c = c.unloaded.ensures.cause c.args.name.now _ c.in-Err.ensures.cause
+pub returns-in-Err-clause-refusal : goal.returns-in-Err-clause-refusal
+returns-in-Err-clause-refusal g c = c.unloaded.ensures.cause c.args.name.now _ c.in-Err.ensures.cause
