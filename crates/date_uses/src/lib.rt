@@ -10,5 +10,6 @@ mod tests;
 mod uses;
 mod whole;
 
+pub use places::{operand_used, place_used};
 pub use uses::{DateUse, MoveKind, UseForm, Used, UsedPlace};
 pub use whole::uses_of;

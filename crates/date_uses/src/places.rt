@@ -50,8 +50,8 @@ fn number_found(found: Found) -> Option<u32>
     }
 }
 
-/// A place as it is written.
-pub(crate) fn place_used(alloc: Global, layout: &Layout, place: &Place) -> Result<Used, Memory>
+/// A place as it is written, as uses have it. The layout is that of its program.
+pub fn place_used(alloc: Global, layout: &Layout, place: &Place) -> Result<Used, Memory>
     requires { IsReady layout.now }
     ensures { IfOk result (λ used. used ≡ spec.place_used layout.now place.now) }
 {
@@ -64,11 +64,8 @@ pub(crate) fn place_used(alloc: Global, layout: &Layout, place: &Place) -> Resul
     }))
 }
 
-pub(crate) fn operand_used(
-    alloc: Global,
-    layout: &Layout,
-    operand: &Operand,
-) -> Result<Used, Memory>
+/// An operand as it is written, as uses have it. The layout is that of its program.
+pub fn operand_used(alloc: Global, layout: &Layout, operand: &Operand) -> Result<Used, Memory>
     requires { IsReady layout.now }
     ensures { IfOk result (λ used. used ≡ spec.operand_used layout.now operand.now) }
 {

@@ -26,14 +26,15 @@ fn has_pivot(mode: Option<YearMode>) -> bool
     }
 }
 
-fn is_windowed(index: &YearIndex, year: Year) -> bool
+/// Whether the year stays in a window.
+pub fn is_windowed(index: &YearIndex, year: Year) -> bool
     ensures { result ≡ spec.is_windowed index.now year }
 {
     has_pivot(index.year_at(year.place))
 }
 
 /// Whether one of the two years is windowed, and the other gets its century.
-fn is_unlike(index: &YearIndex, bridge: Bridge) -> bool
+pub fn is_unlike(index: &YearIndex, bridge: Bridge) -> bool
     ensures { result ≡ spec.is_unlike index.now bridge }
 {
     if is_windowed(index, bridge.sent) {
@@ -54,7 +55,7 @@ fn side_digits(side: &Option<Side>) -> u8
 }
 
 /// The integer digits of a sender.
-fn used_digits(from: &Used) -> u8
+pub fn used_digits(from: &Used) -> u8
     ensures { result ≡ spec.used_digits from.now }
 {
     match from {

@@ -176,7 +176,7 @@ fn accepts_from(index: &YearIndex, unit: u8, to: &Used, from: Register) -> Resul
 }
 
 /// Whether the use accepts a year that gets its century, with its units digit at that power.
-pub(crate) fn accepts_year(index: &YearIndex, unit: u8, form: &UseForm) -> Result<bool, Memory>
+pub fn accepts_year(index: &YearIndex, unit: u8, form: &UseForm) -> Result<bool, Memory>
     ensures { IfOk result (λ accepts. accepts ≡ spec.accepts_year index.now unit form.now) }
 {
     match form {

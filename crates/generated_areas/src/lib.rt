@@ -10,4 +10,6 @@ mod needs;
 mod tests;
 
 pub use area::GeneratedArea;
+pub use bridged::{is_unlike, is_windowed, used_digits};
+pub use dates::accepts_year;
 pub use needs::generated_areas;

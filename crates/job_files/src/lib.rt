@@ -12,4 +12,4 @@ mod written;
 
 pub use loaded::load_files;
 pub use refusal::{DataRefusal, WriteFault};
-pub use written::write_files;
+pub use written::{write_file, write_files};

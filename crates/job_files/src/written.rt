@@ -105,7 +105,7 @@ fn write_named<S: Shelf>(
 }
 
 /// Writes a file under `out`.
-fn write_file<S: Shelf>(
+pub fn write_file<S: Shelf>(
     alloc: Global,
     out: &str,
     name: &[u8],

@@ -1,3 +1,4 @@
 pub mod Statements
 pub mod Found
 pub mod Left
+pub mod Parts

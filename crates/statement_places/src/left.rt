@@ -1,6 +1,7 @@
 ghost use Rattle.std.specs.Prelude.{◌≡◌, ◌≤◌, ◌+◌, ◌*◌, ◌++◌, [], length, OnOk, IfOk};
 ghost use Rattle.statement_places.specs.Left.{left, work};
 ghost use Rattle.statement_places.specs.Statements as spec;
+ghost use Rattle.statement_places.specs.Parts as parts;
 
 use cobol_syntax::{Branch, Form, Statement};
 use std::alloc::Global;
@@ -21,7 +22,8 @@ impl Drop for Left<'_> {
 impl<'a> Left<'a> {
     /// Nothing. It takes no memory.
     pub(crate) fn none(alloc: Global) -> Left<'a>
-        ensures { left result ≡ [] }
+        ensures left { left result ≡ [] }
+        ensures parts { parts.left result ≡ [] }
     {
         Left {
             lists: Vec::new(alloc),
@@ -31,6 +33,7 @@ impl<'a> Left<'a> {
     /// Puts statements in front.
     pub(crate) fn push(&mut self, list: &'a [Statement]) -> Result<(), Memory>
         ensures left { OnOk result (left self.new ≡ spec.of_statements list.now ++ left self.old) }
+        ensures parts { OnOk result (parts.left self.new ≡ parts.of_statements list.now ++ parts.left self.old) }
         ensures work { OnOk result (work self.new ≤ work self.old + (1 + 3 * length (spec.of_statements list.now))) }
     {
         if list.is_empty() {
@@ -43,6 +46,7 @@ impl<'a> Left<'a> {
     /// Puts two lists in front.
     fn push_two(&mut self, first: &'a [Statement], second: &'a [Statement]) -> Result<(), Memory>
         ensures left { OnOk result (left self.new ≡ (spec.of_statements first.now ++ spec.of_statements second.now) ++ left self.old) }
+        ensures parts { OnOk result (parts.left self.new ≡ (parts.of_statements first.now ++ parts.of_statements second.now) ++ parts.left self.old) }
         ensures work { OnOk result (work self.new ≤ work self.old + (2 + 3 * length (spec.of_statements first.now ++ spec.of_statements second.now))) }
     {
         self.push(second)?;
@@ -53,6 +57,7 @@ impl<'a> Left<'a> {
     /// Puts the statements of a phrase in front, if there is one.
     fn push_branch(&mut self, branch: &'a Option<Branch>) -> Result<(), Memory>
         ensures left { OnOk result (left self.new ≡ spec.branch_if branch.now ++ left self.old) }
+        ensures parts { OnOk result (parts.left self.new ≡ parts.branch_if branch.now ++ parts.left self.old) }
         ensures work { OnOk result (work self.new ≤ work self.old + (2 + 3 * length (spec.branch_if branch.now))) }
     {
         match branch {
@@ -67,6 +72,7 @@ impl<'a> Left<'a> {
     /// Puts the statements within a statement in front.
     pub(crate) fn push_within(&mut self, form: &'a Form) -> Result<(), Memory>
         ensures left { OnOk result (left self.new ≡ spec.within form.now ++ left self.old) }
+        ensures parts { OnOk result (parts.left self.new ≡ (parts.given form.now).within ++ parts.left self.old) }
         ensures work { OnOk result (work self.new ≤ work self.old + (2 + 3 * length (spec.within form.now))) }
     {
         match form {

@@ -2,8 +2,10 @@
 #![tactic(auto)]
 
 mod left;
+mod parts;
 mod places;
 #[cfg(test)]
 mod tests;
 
+pub use parts::{Part, parts_of};
 pub use places::{statement_at, statement_origin};

@@ -278,3 +278,41 @@ fn the_end_of_a_long_chain_is_found(rt: HostRuntime) -> Result<(), Fail> {
     assert!(rt; statement_at(alloc, &program, 20_000)? == None);
     Ok(())
 }
+
+/// What a part is, by a letter, and where its text statement or its condition begins.
+fn kind_of(part: Part) -> (u8, u32) {
+    match part {
+        Part::Move { at, .. } => (b'M', at),
+        Part::Compute { at, .. } => (b'C', at),
+        Part::Accept { at, .. } => (b'A', at),
+        Part::Test { of } => (b'T', of.at),
+    }
+}
+
+#[test]
+fn the_parts_stand_in_the_order_of_the_text(rt: HostRuntime) -> Result<(), Fail> {
+    let alloc = rt.alloc();
+    let program = whole(alloc)?;
+    let parts = parts_of(alloc, &program)?;
+    let expected = [
+        (b'T', 0),
+        (b'T', 0),
+        (b'M', 11),
+        (b'C', 16),
+        (b'C', 34),
+        (b'T', 0),
+    ];
+    assert!(rt; parts.len() == expected.len());
+    for index in 0..parts.len() {
+        assert!(rt; kind_of(parts[index]) == expected[index]);
+    }
+    Ok(())
+}
+
+#[test]
+fn each_if_of_a_long_chain_has_its_condition(rt: HostRuntime) -> Result<(), Fail> {
+    let alloc = rt.alloc();
+    let program = short(alloc, chain(alloc, 20_000)?)?;
+    assert!(rt; parts_of(alloc, &program)?.len() == 20_000);
+    Ok(())
+}

@@ -1,1 +1,2 @@
 mod ClashLaws
+mod ConversionLaws

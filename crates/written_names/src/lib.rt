@@ -3,11 +3,13 @@
 #![tactic(auto)]
 
 mod clash;
+mod conversion;
 mod path;
 mod taken;
 #[cfg(test)]
 mod tests;
 
 pub use clash::out_clash;
-pub use path::name_under;
+pub use conversion::{last_part, names_of_conversion};
+pub use path::{name_in, name_under};
 pub use taken::{names_of_run, out_taken};

@@ -19,6 +19,20 @@ pub fn name_under(alloc: Global, out: &str, name: &[u8]) -> Result<String, Memor
     }
 }
 
+/// A name that is relative to a folder, which is empty or ends in `/`, as the shelf takes it. A name that is no text is want
+/// of memory.
+pub fn name_in(alloc: Global, folder: &str, name: &[u8]) -> Result<String, Memory>
+    ensures { IfOk result (λ whole. string_bytes whole ≡ folder.now ++ name.now) }
+{
+    match str::from_utf8(name) {
+        Ok(name) => {
+            let whole = format!(in alloc; "{folder}{name}")?;
+            Ok(whole)
+        }
+        Err(_) => Err(Memory),
+    }
+}
+
 /// A name after its folder.
 pub(crate) fn joined(alloc: Global, folder: &[u8], name: &[u8]) -> Result<Bytes, Memory>
     ensures { IfOk result (λ whole. whole ≡ folder.now ++ name.now) }

@@ -38,6 +38,7 @@ fn opened(alloc: Global) -> Result<Opened, Fail> {
         },
         folder: String::from_str(alloc, "in/")?,
         length: 0,
+        text: List::new(alloc),
     })
 }
 
