@@ -1,0 +1,4 @@
+pub mod Stretches
+pub mod Spelled
+pub mod Search
+pub mod Grouped

@@ -1,0 +1,4 @@
+pub mod Edited
+pub mod NewWords
+pub mod Areas
+pub mod Groups

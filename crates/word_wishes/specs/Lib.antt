@@ -1,0 +1,9 @@
+pub mod Grown
+pub mod Positions
+pub mod Wishes
+pub mod Literals
+pub mod References
+pub mod Entries
+pub mod Chosen
+pub mod Whole
+pub mod Walk
