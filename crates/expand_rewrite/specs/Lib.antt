@@ -1,0 +1,5 @@
+pub mod Old
+pub mod Moves
+pub mod Accepts
+pub mod Statements
+pub mod Expanded

@@ -1,0 +1,5 @@
+use Rattle.std.proofs.Common.{length}
+use Rattle.field_modes.proofs.crossing.any_crosses.Given as goal
+
+abbrev pub decreases-loop-rest : goal.decreases-loop-rest
+decreases-loop-rest l = length l.rest

@@ -1,0 +1,9 @@
+pub mod Old
+pub mod Forms
+pub mod Expressions
+pub mod Orders
+pub mod Relations
+pub mod Asked
+pub mod Conditions
+pub mod Differences
+pub mod Windows
