@@ -1,0 +1,5 @@
+use Rattle.std.proofs.Common.{length}
+use Rattle.source_edit.proofs.line.without_last_gaps.Given as goal
+
+abbrev pub decreases-loop-cells : goal.decreases-loop-cells
+decreases-loop-cells l = length l.cells

@@ -1,0 +1,9 @@
+pub mod Applied
+pub mod Changes
+pub mod Clashes
+pub mod Edited
+pub mod Expansions
+pub mod Faults
+pub mod Lines
+pub mod Rows
+pub mod Stretches
