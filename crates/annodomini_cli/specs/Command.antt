@@ -64,10 +64,3 @@ pub record IsRun (words : List (List ℕ)) (main job : List ℕ) (day : Day) (bo
 
 abbrev pub IsNoRun : List (List ℕ) → Type 0
 IsNoRun words = (main job : List ℕ) (day : Day) (bound : ℕ) (out : List ℕ) → IsRun words main job day bound out → ⊥
-
--- the words are none of the forms of the command line
-pub record HaveNoForm (words : List (List ℕ)) : Type 0 where
-  pub no_label_one : IsNoLabelOne words
-  pub no_label : IsNoLabel words
-  pub no_plan : IsNoPlan words
-  pub no_run : IsNoRun words

@@ -1,1 +1,3 @@
 pub mod Command
+pub mod WriteWords
+pub mod Forms

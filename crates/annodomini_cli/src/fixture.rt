@@ -74,3 +74,36 @@ pub(crate) fn manifest(alloc: Global, programs: &str, lines: &str) -> Result<Str
     let text = format!(in alloc; "version = 1\npivot = 50\nprograms = [{programs}]\n{lines}\n")?;
     Ok(text)
 }
+
+/// A program of a table by its name, a seed of it (or none), the windows of the manifest, its entries and statements, and what
+/// is wanted of it.
+#[derive(Clone, Copy)]
+pub(crate) struct Case<'a> {
+    pub(crate) name: &'a str,
+    pub(crate) seed: &'a str,
+    pub(crate) windows: &'a str,
+    pub(crate) entries: &'a str,
+    pub(crate) statements: &'a str,
+    pub(crate) wanted: &'a str,
+}
+
+/// The first case of a table, and the cases behind it. A case is a line with its name, one with its seed and one with its
+/// windows, and then the lines of its entries, of its statements and of what is wanted, each behind a line `--`; a line
+/// `====` ends it.
+pub(crate) fn next_case(table: &str) -> Option<(Case<'_>, &str)> {
+    let (text, more) = table.split_once("====\n")?;
+    let (name, text) = text.split_once("\n")?;
+    let (seed, text) = text.split_once("\n")?;
+    let (windows, text) = text.split_once("\n--\n")?;
+    let (entries, text) = text.split_once("--\n")?;
+    let (statements, wanted) = text.split_once("--\n")?;
+    let case = Case {
+        name,
+        seed,
+        windows,
+        entries,
+        statements,
+        wanted,
+    };
+    Some((case, more))
+}

@@ -3,6 +3,8 @@
 
 mod command;
 #[cfg(test)]
+mod convert_tests;
+#[cfg(test)]
 mod fixture;
 #[cfg(test)]
 mod manifest_tests;
@@ -18,6 +20,7 @@ mod run_words;
 #[cfg(test)]
 mod tests;
 mod top;
+mod write_words;
 
 use answers::NO_MEMORY;
 use shelf::{FolderShelf, StdSink};

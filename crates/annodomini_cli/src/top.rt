@@ -6,11 +6,15 @@ ghost use Rattle.label_report.specs.Answer as report;
 ghost use Rattle.plan_command.specs.Answer as planning;
 ghost use Rattle.run_command.specs.Answer as running;
 ghost use Rattle.trial_run.specs.declared.day.Day as days;
-ghost use Rattle.annodomini_cli.specs.Command.{HaveNoForm, IsLabel, IsLabelOne, IsNoPlan, IsNoRun, IsPlan, IsRun};
+ghost use Rattle.annodomini_cli.specs.Command.{IsLabel, IsLabelOne, IsNoPlan, IsNoRun, IsPlan, IsRun};
+ghost use Rattle.annodomini_cli.specs.Forms.{HaveNoForm};
+ghost use Rattle.annodomini_cli.specs.WriteWords.{IsNoConversion};
 
 use crate::command::{label_one_of, manifest_of};
 use crate::run_words::run_of;
+use crate::write_words::conversion_of;
 use answers::{USAGE, say};
+use convert_command::report_conversion;
 use label_command::label_one;
 use label_report::report_labels;
 use plan_command::report_plan;
@@ -50,8 +54,8 @@ pub fn annodomini<S: Shelf, K: Sink>(
     ensures run { (main : List ℕ) (job : List ℕ) (day : days.Day) (bound : ℕ) (into : List ℕ) → IsRun (map string_bytes words.now) main job day bound into →
         running.IsAnswered (running.IsAnswer (S.told shelf.old) main job day bound into) (K.taken out.old) (K.taken out.new) (S.told shelf.new) result }
 
-    // But for a run the files stay as they are.
-    ensures same { IsNoRun (map string_bytes words.now) → S.told shelf.new ≡ S.told shelf.old }
+    // But for a run and a conversion the files stay as they are.
+    ensures same { IsNoRun (map string_bytes words.now) → IsNoConversion (map string_bytes words.now) → S.told shelf.new ≡ S.told shelf.old }
 {
     match label_one_of(words) {
         Some(found) => label_one(alloc, found.source, found.item, shelf, out),
@@ -64,15 +68,16 @@ pub fn annodomini<S: Shelf, K: Sink>(
 
 /// Plans a conversion or runs a job, where the words ask for it, or prints the usage line.
 fn plan_or_run<S: Shelf, K: Sink>(alloc: Global, words: &[String], shelf: &mut S, out: &mut K) -> u8
-    ensures usage { IsNoPlan (map string_bytes words.now) → IsNoRun (map string_bytes words.now) → IsSaid 2 USAGE_LINE.now (K.taken out.old) (K.taken out.new) result }
+    ensures usage { IsNoPlan (map string_bytes words.now) → IsNoRun (map string_bytes words.now) → IsNoConversion (map string_bytes words.now) → IsSaid 2 USAGE_LINE.now (K.taken out.old) (K.taken out.new) result }
     ensures no_plan { result ≡ 2 → IsNoPlan (map string_bytes words.now) }
     ensures no_run { result ≡ 2 → IsNoRun (map string_bytes words.now) }
+    ensures no_conversion { result ≡ 2 → IsNoConversion (map string_bytes words.now) }
     ensures plan { (main : List ℕ) → IsPlan (map string_bytes words.now) main → report.IsAnswered (planning.IsAnswer main (S.told shelf.old)) (K.taken out.old) (K.taken out.new) result }
     ensures run { (main : List ℕ) (job : List ℕ) (day : days.Day) (bound : ℕ) (into : List ℕ) → IsRun (map string_bytes words.now) main job day bound into →
         running.IsAnswered (running.IsAnswer (S.told shelf.old) main job day bound into) (K.taken out.old) (K.taken out.new) (S.told shelf.new) result }
     ensures shelf_fault { result ≡ 6 → Rose (S.faults shelf.old) (S.faults shelf.new) }
     ensures sink_fault { result ≡ 7 → Rose (K.faults out.old) (K.faults out.new) }
-    ensures same { IsNoRun (map string_bytes words.now) → S.told shelf.new ≡ S.told shelf.old }
+    ensures same { IsNoRun (map string_bytes words.now) → IsNoConversion (map string_bytes words.now) → S.told shelf.new ≡ S.told shelf.old }
 {
     match manifest_of(words, "plan") {
         Some(main) => report_plan(alloc, main, shelf, out),
@@ -87,13 +92,14 @@ fn run_or_usage<S: Shelf, K: Sink>(
     shelf: &mut S,
     out: &mut K,
 ) -> u8
-    ensures usage { IsNoRun (map string_bytes words.now) → IsSaid 2 USAGE_LINE.now (K.taken out.old) (K.taken out.new) result }
+    ensures usage { IsNoRun (map string_bytes words.now) → IsNoConversion (map string_bytes words.now) → IsSaid 2 USAGE_LINE.now (K.taken out.old) (K.taken out.new) result }
     ensures no_form { result ≡ 2 → IsNoRun (map string_bytes words.now) }
+    ensures no_conversion { result ≡ 2 → IsNoConversion (map string_bytes words.now) }
     ensures run { (main : List ℕ) (job : List ℕ) (day : days.Day) (bound : ℕ) (into : List ℕ) → IsRun (map string_bytes words.now) main job day bound into →
         running.IsAnswered (running.IsAnswer (S.told shelf.old) main job day bound into) (K.taken out.old) (K.taken out.new) (S.told shelf.new) result }
     ensures shelf_fault { result ≡ 6 → Rose (S.faults shelf.old) (S.faults shelf.new) }
     ensures sink_fault { result ≡ 7 → Rose (K.faults out.old) (K.faults out.new) }
-    ensures same { IsNoRun (map string_bytes words.now) → S.told shelf.new ≡ S.told shelf.old }
+    ensures same { IsNoRun (map string_bytes words.now) → IsNoConversion (map string_bytes words.now) → S.told shelf.new ≡ S.told shelf.old }
 {
     match run_of(words) {
         Some(found) => {
@@ -102,6 +108,25 @@ fn run_or_usage<S: Shelf, K: Sink>(
                 alloc, found.main, found.job, task.day, task.bound, task.out, shelf, out,
             )
         }
+        None => convert_or_usage(alloc, words, shelf, out),
+    }
+}
+
+/// Converts a portfolio, where the words ask for it, or prints the usage line.
+fn convert_or_usage<S: Shelf, K: Sink>(
+    alloc: Global,
+    words: &[String],
+    shelf: &mut S,
+    out: &mut K,
+) -> u8
+    ensures usage { IsNoConversion (map string_bytes words.now) → IsSaid 2 USAGE_LINE.now (K.taken out.old) (K.taken out.new) result }
+    ensures no_conversion { result ≡ 2 → IsNoConversion (map string_bytes words.now) }
+    ensures shelf_fault { result ≡ 6 → Rose (S.faults shelf.old) (S.faults shelf.new) }
+    ensures sink_fault { result ≡ 7 → Rose (K.faults out.old) (K.faults out.new) }
+    ensures same { IsNoConversion (map string_bytes words.now) → S.told shelf.new ≡ S.told shelf.old }
+{
+    match conversion_of(words) {
+        Some(found) => report_conversion(alloc, found.main, found.out, shelf, out),
         None => say(USAGE_LINE.as_bytes(), USAGE, out),
     }
 }

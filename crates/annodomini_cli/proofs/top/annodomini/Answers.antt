@@ -56,4 +56,5 @@ returns-in-None-manifest_of-clause-no_form g c = λ two. record {
   no_label = c.in-None-manifest_of.ensures.none;
   no_plan = c.plan_or_run.ensures.no_plan two;
   no_run = c.plan_or_run.ensures.no_run two;
+  no_conversion = c.plan_or_run.ensures.no_conversion two;
 }
