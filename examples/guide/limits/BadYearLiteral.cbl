@@ -1,0 +1,8 @@
+       IDENTIFICATION DIVISION.
+       PROGRAM-ID. P.
+       DATA DIVISION.
+       WORKING-STORAGE SECTION.
+       01 DUE PIC X(6).
+       PROCEDURE DIVISION.
+           MOVE "5 0101" TO DUE.
+           STOP RUN.

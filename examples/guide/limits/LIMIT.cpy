@@ -1,0 +1,1 @@
+           MOVE 580101 TO FIELD.

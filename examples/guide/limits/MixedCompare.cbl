@@ -1,0 +1,9 @@
+       IDENTIFICATION DIVISION.
+       PROGRAM-ID. P.
+       DATA DIVISION.
+       WORKING-STORAGE SECTION.
+       01 DUE PIC 9(6).
+       01 PAID PIC 9(6).
+       PROCEDURE DIVISION.
+           IF PAID > DUE DISPLAY "LATE" END-IF.
+           STOP RUN.

@@ -1,0 +1,11 @@
+       IDENTIFICATION DIVISION.
+       PROGRAM-ID. P.
+       DATA DIVISION.
+       WORKING-STORAGE SECTION.
+       01 A-DATE.
+           05 A-DUE PIC 9(6) COMP-3.
+       01 B-DATE.
+           05 B-DUE PIC 9(6) COMP-3.
+       PROCEDURE DIVISION.
+           IF A-DATE < B-DATE DISPLAY "BEFORE" END-IF.
+           STOP RUN.

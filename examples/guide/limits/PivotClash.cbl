@@ -1,0 +1,9 @@
+       IDENTIFICATION DIVISION.
+       PROGRAM-ID. P.
+       DATA DIVISION.
+       WORKING-STORAGE SECTION.
+       01 BORN PIC 9(6).
+       01 DUE PIC 9(6).
+       PROCEDURE DIVISION.
+           IF BORN > DUE DISPLAY "ODD" END-IF.
+           STOP RUN.

@@ -1,0 +1,11 @@
+       IDENTIFICATION DIVISION.
+       PROGRAM-ID. P.
+       DATA DIVISION.
+       WORKING-STORAGE SECTION.
+       01 DUE PIC 9(6).
+       01 DUE-X REDEFINES DUE.
+           05 FIRST-DIGIT PIC 9.
+           05 FILLER PIC X(5).
+       PROCEDURE DIVISION.
+           MOVE 580101 TO DUE.
+           STOP RUN.

@@ -1,0 +1,10 @@
+       IDENTIFICATION DIVISION.
+       PROGRAM-ID. PAGES.
+       PROCEDURE DIVISION.
+       MAIN-PARA.
+           PERFORM TWO-LINES.
+           STOP RUN.
+       TWO-LINES.
+           DISPLAY "FIRST LINE".
+           EJECT.
+           DISPLAY "SECOND LINE".
