@@ -1,14 +1,19 @@
+ghost use Rattle.std.specs.List.{AllByRecursion};
+ghost use Rattle.data_layout.specs.Index.{IsReady};
+ghost use Rattle.year_labels.specs.Facts.{IsClean};
+
 use crate::expand;
-use convert_plan::make_plan;
+use convert_plan::{Plan, make_plan};
 use data_layout::Portfolio;
 use date_types::rules_of;
-use gathered::{Gathered, assemble};
+use gathered::assemble;
 use label_spread::spread;
 use seed_file::read_seeds;
 use std::alloc::Global;
 use std::test::Fail;
 use window_items::Windows;
 use y2k_base::{Bytes, Edit, List, Memory, Text, TextRole, Texts};
+use year_labels::{Labelling, Seed};
 
 fn bytes_of(alloc: Global, text: &[u8]) -> Result<Bytes, Memory> {
     let mut bytes = List::new(alloc);
@@ -42,40 +47,70 @@ fn add_edit(alloc: Global, into: &mut Bytes, edit: &Edit) -> Result<(), Memory> 
     Ok(())
 }
 
+/// The edits, one a line.
+fn edit_lines(alloc: Global, edits: &[Edit]) -> Result<Bytes, Memory> {
+    let mut text = List::new(alloc);
+    for edit in edits {
+        add_edit(alloc, &mut text, edit)?;
+    }
+    Ok(text)
+}
+
+fn expanded(alloc: Global, portfolio: &Portfolio, plan: &Plan) -> Result<Bytes, Memory>
+    requires { AllByRecursion IsReady portfolio.now.layouts }
+{
+    let edits = expand(alloc, portfolio, plan)?;
+    let lines = edit_lines(alloc, edits.list.items())?;
+    Ok(lines)
+}
+
+fn planned(alloc: Global, portfolio: &Portfolio, labelling: &Labelling) -> Result<Bytes, Memory>
+    requires ready { AllByRecursion IsReady portfolio.now.layouts }
+    requires clean { IsClean labelling.now }
+{
+    let windows = Windows {
+        day: 5,
+        groups: List::new(alloc),
+    };
+    match make_plan(alloc, portfolio, labelling, &windows) {
+        Err(_) => bytes_of(alloc, b"limit"),
+        Ok(plan) => expanded(alloc, portfolio, &plan),
+    }
+}
+
+fn labelled(alloc: Global, portfolio: &Portfolio, seeds: &[Seed]) -> Result<Bytes, Memory>
+    requires { AllByRecursion IsReady portfolio.now.layouts }
+{
+    let rules = rules_of(alloc, portfolio)?;
+    let labelling = spread(alloc, seeds, rules.items())?;
+    if labelling.clean() {
+        planned(alloc, portfolio, &labelling)
+    } else {
+        bytes_of(alloc, b"conflict")
+    }
+}
+
+fn seeded(alloc: Global, portfolio: &Portfolio, seeds: &str) -> Result<Bytes, Memory>
+    requires { AllByRecursion IsReady portfolio.now.layouts }
+{
+    match read_seeds(alloc, seeds.as_bytes(), portfolio) {
+        Err(_) => bytes_of(alloc, b"no seeds"),
+        Ok(seeds) => labelled(alloc, portfolio, seeds.items()),
+    }
+}
+
+fn gathered_edits(alloc: Global, texts: Texts, seeds: &str) -> Result<Bytes, Memory> {
+    match assemble(alloc, texts, None) {
+        Err(_) => bytes_of(alloc, b"refused"),
+        Ok(gathered) => seeded(alloc, &gathered.portfolio, seeds),
+    }
+}
+
 /// The edits of a program with these seeds, one a line.
 fn edits_text(alloc: Global, lines: &str, seeds: &str) -> Result<Bytes, Fail> {
-    let mut text = List::new(alloc);
     let texts = texts_of(alloc, lines)?;
-    match assemble(alloc, texts, None) {
-        Err(_) => Ok(bytes_of(alloc, b"refused")?),
-        Ok(gathered) => {
-            let portfolio = &gathered.portfolio;
-            match read_seeds(alloc, seeds.as_bytes(), portfolio) {
-                Err(_) => Ok(bytes_of(alloc, b"no seeds")?),
-                Ok(seeds) => {
-                    let rules = rules_of(alloc, portfolio)?;
-                    let labelling = spread(alloc, seeds.items(), rules.items())?;
-                    if !labelling.clean() {
-                        return Ok(bytes_of(alloc, b"conflict")?);
-                    }
-                    let windows = Windows {
-                        day: 5,
-                        groups: List::new(alloc),
-                    };
-                    match make_plan(alloc, portfolio, &labelling, &windows) {
-                        Err(_) => Ok(bytes_of(alloc, b"limit")?),
-                        Ok(plan) => {
-                            let edits = expand(alloc, portfolio, &plan)?;
-                            for edit in edits.list.items() {
-                                add_edit(alloc, &mut text, edit)?;
-                            }
-                            Ok(text)
-                        }
-                    }
-                }
-            }
-        }
-    }
+    let text = gathered_edits(alloc, texts, seeds)?;
+    Ok(text)
 }
 
 /// The lines of a program behind its name, its seeds, and its edits, each line with a line feed.

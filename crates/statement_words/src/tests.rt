@@ -1,10 +1,13 @@
+ghost use Rattle.std.specs.Prelude.{[], IfOk};
+ghost use Rattle.y2k_base.specs.Edits.{AreInOrder, AreJoined};
+
 use super::*;
-use cobol_syntax::{Operand, Place};
+use cobol_syntax::{Expr, Operand, Place};
 use generated_areas::GeneratedArea;
 use statement_places::Part;
 use std::alloc::Global;
 use std::test::Fail;
-use y2k_base::{Bytes, Edit, FileId, List, Memory, Origin, Word, WordKind};
+use y2k_base::{Bytes, Edit, Edits, FileId, List, Memory, Origin, Word, WordKind, join_edits};
 
 fn origin(column: u32) -> Origin {
     Origin {
@@ -67,12 +70,40 @@ fn place(alloc: Global, at: u32, end: u32) -> Place {
     }
 }
 
+/// The edits by position.
+fn in_order(alloc: Global, list: List<Edit>) -> Result<Edits, Memory>
+    ensures { IfOk result (λ edits. AreJoined list [] edits.list) }
+{
+    let none = Edits {
+        list: List::new(alloc),
+    };
+    let edits = join_edits(alloc, Edits { list }, none)?;
+    Ok(edits)
+}
+
+fn is_word(word: &Word, text: &[u8], kind: WordKind) -> bool {
+    word.text.items() == text && word.kind == kind && word.origin == origin(9)
+}
+
+fn are_words(words: &[Word], wanted: &[(&[u8], WordKind)]) -> bool {
+    if words.len() != wanted.len() {
+        return false;
+    }
+    for index in 0..words.len() {
+        let (text, kind) = wanted[index];
+        if !is_word(&words[index], text, kind) {
+            return false;
+        }
+    }
+    true
+}
+
 #[test]
 fn words_are_digits_names_and_marks(rt: HostRuntime) -> Result<(), Fail> {
     let alloc = rt.alloc();
     let mut words = List::new(alloc);
     add_text(alloc, &mut words, "IF Y2K-DATE < 050000 5A ( .", origin(9))?;
-    let expected = [
+    let wanted = [
         (b"IF" as &[u8], WordKind::Name),
         (b"Y2K-DATE", WordKind::Name),
         (b"<", WordKind::Mark),
@@ -81,105 +112,143 @@ fn words_are_digits_names_and_marks(rt: HostRuntime) -> Result<(), Fail> {
         (b"(", WordKind::Mark),
         (b".", WordKind::Mark),
     ];
-    assert!(rt; words.len() == expected.len());
-    for index in 0..words.len() {
-        assert!(rt; words.items()[index].text.items() == expected[index].0);
-        assert!(rt; words.items()[index].kind == expected[index].1);
-        assert!(rt; words.items()[index].origin == origin(9));
-    }
+    assert!(rt; are_words(words.items(), &wanted));
     Ok(())
+}
+
+/// The text statements that each have the receiver of one of these parts.
+fn alone(alloc: Global, source: EditedWords, group: &[Part]) -> Result<Bytes, Memory>
+    requires { AreInOrder source.edits.now }
+{
+    let mut new = List::new(alloc);
+    for index in 0..group.len() {
+        add_alone(alloc, &mut new, source, group, group[index])?;
+    }
+    let text = text_of(alloc, new.items())?;
+    Ok(text)
+}
+
+/// The same for the parts of the first text statement.
+fn first_alone(alloc: Global, source: EditedWords, parts: &[Part]) -> Result<Bytes, Memory>
+    requires { AreInOrder source.edits.now }
+{
+    match next_group(parts) {
+        None => Ok(List::new(alloc)),
+        Some((group, _)) => alone(alloc, source, group),
+    }
+}
+
+/// Whether the first text statement has so many parts and ends there, and so many parts are behind it.
+fn is_group(parts: &[Part], count: usize, end: u32, more: usize) -> bool {
+    match next_group(parts) {
+        None => false,
+        Some((group, rest)) => {
+            group.len() == count && group_end(group) == end && rest.len() == more
+        }
+    }
+}
+
+fn move_edits(alloc: Global) -> Result<List<Edit>, Memory> {
+    let mut edits = List::new(alloc);
+    edits.push(edit(alloc, 3, "A1 A2")?)?;
+    edits.push(edit(alloc, 3, "Z")?)?;
+    edits.push(edit(alloc, 8, "2")?)?;
+    Ok(edits)
+}
+
+fn moved(alloc: Global, parts: &[Part]) -> Result<Bytes, Memory> {
+    let words = program_words(alloc, "IF X MOVE A TO B C ( 1 ) .")?;
+    let edits = in_order(alloc, move_edits(alloc)?)?;
+    let source = EditedWords {
+        program: 2,
+        words: words.items(),
+        edits: edits.list.items(),
+    };
+    let text = first_alone(alloc, source, parts)?;
+    Ok(text)
+}
+
+fn move_part<'a>(at: u32, end: u32, from: &'a Operand, to: &'a Place) -> Part<'a> {
+    Part::Move { at, end, from, to }
 }
 
 #[test]
 fn receivers_stand_alone_with_their_edits(rt: HostRuntime) -> Result<(), Fail> {
     let alloc = rt.alloc();
-    let words = program_words(alloc, "IF X MOVE A TO B C ( 1 ) .")?;
-    let mut edits = List::new(alloc);
-    edits.push(edit(alloc, 3, "A1 A2")?)?;
-    edits.push(edit(alloc, 3, "Z")?)?;
-    edits.push(edit(alloc, 8, "2")?)?;
-    let source = EditedWords {
-        program: 2,
-        words: words.items(),
-        edits: edits.items(),
-    };
     let from = Operand::Place(place(alloc, 3, 4));
     let first = place(alloc, 5, 6);
     let second = place(alloc, 6, 10);
-    let mut parts = Vec::new(alloc);
-    parts.push(Part::Move {
-        at: 2,
-        end: 10,
-        from: &from,
-        to: &first,
-    })?;
-    parts.push(Part::Move {
-        at: 2,
-        end: 10,
-        from: &from,
-        to: &second,
-    })?;
-    parts.push(Part::Move {
-        at: 11,
-        end: 15,
-        from: &from,
-        to: &first,
-    })?;
-    match next_group(parts.as_slice()) {
-        None => assert!(rt; false),
-        Some((group, rest)) => {
-            assert!(rt; group.len() == 2);
-            assert!(rt; rest.len() == 1);
-            assert!(rt; group_end(group) == 10);
-            let mut new = List::new(alloc);
-            add_alone(alloc, &mut new, source, group, group[0])?;
-            add_alone(alloc, &mut new, source, group, group[1])?;
-            assert!(rt;
-                text_of(alloc, new.items())?.items()
-                    == b"MOVE A1 A2 TO B MOVE A1 A2 TO C ( 2 )".as_slice()
-            );
-        }
-    }
+    let parts = [
+        move_part(2, 10, &from, &first),
+        move_part(2, 10, &from, &second),
+        move_part(11, 15, &from, &first),
+    ];
+    assert!(rt; is_group(&parts, 2, 10, 1));
+    let text = moved(alloc, &parts)?;
+    assert!(rt; text.items() == b"MOVE A1 A2 TO B MOVE A1 A2 TO C ( 2 )".as_slice());
     Ok(())
+}
+
+fn compute_part<'a>(to: &'a Place, rounded: bool, value: &'a Expr) -> Part<'a> {
+    Part::Compute {
+        at: 0,
+        end: 7,
+        to,
+        rounded,
+        value,
+    }
+}
+
+fn computed(alloc: Global, parts: &[Part]) -> Result<Bytes, Memory> {
+    let words = program_words(alloc, "COMPUTE A ROUNDED B = C END-COMPUTE")?;
+    let edits = in_order(alloc, List::new(alloc))?;
+    let source = EditedWords {
+        program: 2,
+        words: words.items(),
+        edits: edits.list.items(),
+    };
+    let text = alone(alloc, source, parts)?;
+    Ok(text)
 }
 
 #[test]
 fn rounded_and_what_follows_the_receivers_stay(rt: HostRuntime) -> Result<(), Fail> {
     let alloc = rt.alloc();
-    let words = program_words(alloc, "COMPUTE A ROUNDED B = C END-COMPUTE")?;
-    let source = EditedWords {
-        program: 2,
-        words: words.items(),
-        edits: &[],
-    };
-    let from = Operand::Place(place(alloc, 5, 6));
     let first = place(alloc, 1, 2);
     let second = place(alloc, 3, 4);
-    let value = cobol_syntax::Expr::One(from);
+    let value = Expr::One(Operand::Place(place(alloc, 5, 6)));
     let parts = [
-        Part::Compute {
-            at: 0,
-            end: 7,
-            to: &first,
-            rounded: true,
-            value: &value,
-        },
-        Part::Compute {
-            at: 0,
-            end: 7,
-            to: &second,
-            rounded: false,
-            value: &value,
-        },
+        compute_part(&first, true, &value),
+        compute_part(&second, false, &value),
     ];
-    let mut new = List::new(alloc);
-    add_alone(alloc, &mut new, source, &parts, parts[0])?;
-    add_alone(alloc, &mut new, source, &parts, parts[1])?;
+    let text = computed(alloc, &parts)?;
     assert!(rt;
-        text_of(alloc, new.items())?.items()
-            == b"COMPUTE A ROUNDED = C END-COMPUTE COMPUTE B = C END-COMPUTE".as_slice()
+        text.items() == b"COMPUTE A ROUNDED = C END-COMPUTE COMPUTE B = C END-COMPUTE".as_slice()
     );
     Ok(())
+}
+
+/// Whether it is an edit of the word at that position of program 4, with these words.
+fn is_edit(alloc: Global, edit: &Edit, position: u32, text: &str) -> Result<bool, Memory> {
+    let got = text_of(alloc, edit.words.items())?;
+    Ok(
+        edit.program == 4
+            && edit.position == position
+            && edit.at == origin(position)
+            && got.items() == text.as_bytes(),
+    )
+}
+
+/// Whether the first word gets the new ones and the second none.
+fn is_stretch(alloc: Global, edits: &[Edit]) -> Result<bool, Memory> {
+    match edits {
+        [first, second] => {
+            let begins = is_edit(alloc, first, 1, "X Y")?;
+            let ends = is_edit(alloc, second, 2, "")?;
+            Ok(begins && ends)
+        }
+        _ => Ok(false),
+    }
 }
 
 #[test]
@@ -190,13 +259,7 @@ fn a_stretch_has_its_new_words_at_its_first(rt: HostRuntime) -> Result<(), Fail>
     add_text(alloc, &mut new, "X Y", origin(1))?;
     let mut edits = List::new(alloc);
     add_stretch(alloc, &mut edits, 4, words.items(), 1, 5, new)?;
-    assert!(rt; edits.len() == 2);
-    let first = &edits.items()[0];
-    let second = &edits.items()[1];
-    assert!(rt; first.program == 4 && first.position == 1 && first.at == origin(1));
-    assert!(rt; text_of(alloc, first.words.items())?.items() == b"X Y".as_slice());
-    assert!(rt; second.program == 4 && second.position == 2 && second.at == origin(2));
-    assert!(rt; second.words.is_empty());
+    assert!(rt; is_stretch(alloc, edits.items())?);
     Ok(())
 }
 

@@ -1,5 +1,12 @@
+ghost use Rattle.std.specs.Prelude.{[], IfOk};
+ghost use Rattle.std.specs.List.{AllByRecursion};
+ghost use Rattle.y2k_base.specs.Edits.{AreJoined};
+ghost use Rattle.data_layout.specs.Index.{IsReady};
+ghost use Rattle.year_labels.specs.Facts.{IsClean};
+
 use crate::window;
-use convert_plan::make_plan;
+use cobol_syntax::Program;
+use convert_plan::{Plan, make_plan};
 use data_layout::{ItemRef, Portfolio};
 use date_types::rules_of;
 use gathered::assemble;
@@ -8,8 +15,10 @@ use seed_file::read_seeds;
 use std::alloc::Global;
 use std::test::Fail;
 use window_items::{Window, Windows};
-use y2k_base::{Bytes, Edit, Edits, List, Memory, Text, TextRole, Texts, Word, WordKind};
-use year_labels::Labelling;
+use y2k_base::{
+    Bytes, Edit, Edits, List, Memory, Text, TextRole, Texts, Word, WordKind, join_edits,
+};
+use year_labels::{Labelling, Seed};
 
 fn bytes_of(alloc: Global, text: &[u8]) -> Result<Bytes, Memory> {
     let mut bytes = List::new(alloc);
@@ -80,28 +89,69 @@ fn add_edit(into: &mut Bytes, edit: &Edit) -> Result<(), Memory> {
     Ok(())
 }
 
+/// An edit of a word, which puts 5 in its place.
+fn five(alloc: Global, position: u32, word: &Word) -> Result<Edit, Memory> {
+    let mut words = List::new(alloc);
+    words.push(Word {
+        text: bytes_of(alloc, b"5")?,
+        kind: WordKind::Number,
+        origin: word.origin,
+    })?;
+    Ok(Edit {
+        program: 0,
+        position,
+        at: word.origin,
+        words,
+    })
+}
+
 /// An edit of each word 3, which puts 5 in its place.
-fn edits_of(alloc: Global, words: &[Word]) -> Result<Edits, Memory> {
+fn fives(alloc: Global, words: &[Word]) -> Result<List<Edit>, Memory> {
     let mut list = List::new(alloc);
-    let mut position = 0;
+    let mut position = 0u32;
     for word in words {
         if word.text.items() == b"3".as_slice() {
-            let mut new = List::new(alloc);
-            new.push(Word {
-                text: bytes_of(alloc, b"5")?,
-                kind: WordKind::Number,
-                origin: word.origin,
-            })?;
-            list.push(Edit {
-                program: 0,
-                position,
-                at: word.origin,
-                words: new,
-            })?;
+            list.push(five(alloc, position, word)?)?;
         }
-        position += 1;
+        position = position.saturating_add(1);
     }
-    Ok(Edits { list })
+    Ok(list)
+}
+
+fn first_words(programs: &[Program]) -> &[Word] {
+    match programs {
+        [] => &[],
+        [program, ..] => program.words.items(),
+    }
+}
+
+/// The edits by program and position.
+fn in_order(alloc: Global, list: List<Edit>) -> Result<Edits, Memory>
+    ensures { IfOk result (λ edits. AreJoined list [] edits.list) }
+{
+    let none = Edits {
+        list: List::new(alloc),
+    };
+    let edits = join_edits(alloc, Edits { list }, none)?;
+    Ok(edits)
+}
+
+fn new_words(alloc: Global, edits: &[Edit]) -> Result<Bytes, Memory> {
+    let mut text = List::new(alloc);
+    for edit in edits {
+        add_edit(&mut text, edit)?;
+    }
+    Ok(text)
+}
+
+fn windowed(alloc: Global, portfolio: &Portfolio, plan: &Plan) -> Result<Bytes, Memory>
+    requires { AllByRecursion IsReady portfolio.now.layouts }
+{
+    let list = fives(alloc, first_words(portfolio.programs.items()))?;
+    let expanded = in_order(alloc, list)?;
+    let edits = window(alloc, portfolio, plan, &expanded)?;
+    let text = new_words(alloc, edits.list.items())?;
+    Ok(text)
 }
 
 fn planned(
@@ -109,19 +159,56 @@ fn planned(
     portfolio: &Portfolio,
     labelling: &Labelling,
     windows: &Windows,
-) -> Result<Bytes, Memory> {
+) -> Result<Bytes, Memory>
+    requires ready { AllByRecursion IsReady portfolio.now.layouts }
+    requires clean { IsClean labelling.now }
+{
     match make_plan(alloc, portfolio, labelling, windows) {
         Err(_) => bytes_of(alloc, b"limit"),
-        Ok(plan) => {
-            let words = portfolio.programs.items()[0].words.items();
-            let expanded = edits_of(alloc, words)?;
-            let edits = window(alloc, portfolio, &plan, &expanded)?;
-            let mut text = List::new(alloc);
-            for edit in edits.list.items() {
-                add_edit(&mut text, edit)?;
-            }
-            Ok(text)
-        }
+        Ok(plan) => windowed(alloc, portfolio, &plan),
+    }
+}
+
+fn labelled(
+    alloc: Global,
+    portfolio: &Portfolio,
+    seeds: &[Seed],
+    windows: &Windows,
+) -> Result<Bytes, Memory>
+    requires { AllByRecursion IsReady portfolio.now.layouts }
+{
+    let rules = rules_of(alloc, portfolio)?;
+    let labelling = spread(alloc, seeds, rules.items())?;
+    if labelling.clean() {
+        planned(alloc, portfolio, &labelling, windows)
+    } else {
+        bytes_of(alloc, b"conflict")
+    }
+}
+
+fn seeded(
+    alloc: Global,
+    portfolio: &Portfolio,
+    seeds: &str,
+    windows: &Windows,
+) -> Result<Bytes, Memory>
+    requires { AllByRecursion IsReady portfolio.now.layouts }
+{
+    match read_seeds(alloc, seeds.as_bytes(), portfolio) {
+        Err(_) => bytes_of(alloc, b"no seeds"),
+        Ok(seeds) => labelled(alloc, portfolio, seeds.items(), windows),
+    }
+}
+
+fn gathered_words(
+    alloc: Global,
+    texts: Texts,
+    seeds: &str,
+    windows: &Windows,
+) -> Result<Bytes, Memory> {
+    match assemble(alloc, texts, None) {
+        Err(_) => bytes_of(alloc, b"refused"),
+        Ok(gathered) => seeded(alloc, &gathered.portfolio, seeds, windows),
     }
 }
 
@@ -135,24 +222,9 @@ fn written(
 ) -> Result<Bytes, Fail> {
     let texts = texts_of(alloc, storage, sentences)?;
     let seeds = format!(in alloc; "program,item,kind,digit\n{seeds}")?;
-    match assemble(alloc, texts, None) {
-        Err(_) => Ok(bytes_of(alloc, b"refused")?),
-        Ok(gathered) => {
-            let portfolio = &gathered.portfolio;
-            match read_seeds(alloc, seeds.as_bytes(), portfolio) {
-                Err(_) => Ok(bytes_of(alloc, b"no seeds")?),
-                Ok(seeds) => {
-                    let rules = rules_of(alloc, portfolio)?;
-                    let labelling = spread(alloc, seeds.items(), rules.items())?;
-                    if !labelling.clean() {
-                        return Ok(bytes_of(alloc, b"conflict")?);
-                    }
-                    let windows = windows_of(alloc, windows)?;
-                    Ok(planned(alloc, portfolio, &labelling, &windows)?)
-                }
-            }
-        }
-    }
+    let windows = windows_of(alloc, windows)?;
+    let text = gathered_words(alloc, texts, seeds.as_str(), &windows)?;
+    Ok(text)
 }
 
 /// Two windowed dates, a windowed text, a date that gets its century, and a number.

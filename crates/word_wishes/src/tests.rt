@@ -31,17 +31,20 @@ fn word_of(alloc: Global, kind: WordKind, text: &str, column: u32) -> Result<Wor
     })
 }
 
+fn kind_of(text: &str) -> WordKind {
+    match text {
+        "(" | ")" | ":" => WordKind::Mark,
+        _ => WordKind::Name,
+    }
+}
+
 /// Marks and names, each in the column of its position.
 fn words_of(alloc: Global, texts: &[&str]) -> Result<List<Word>, Memory> {
     let mut words = List::new(alloc);
-    let mut column = 0;
+    let mut column = 0u32;
     for text in texts {
-        let kind = match *text {
-            "(" | ")" | ":" => WordKind::Mark,
-            _ => WordKind::Name,
-        };
-        words.push(word_of(alloc, kind, text, column)?)?;
-        column += 1;
+        words.push(word_of(alloc, kind_of(text), text, column)?)?;
+        column = column.saturating_add(1);
     }
     Ok(words)
 }
@@ -60,32 +63,53 @@ fn programs_of(alloc: Global) -> Result<List<Program>, Memory> {
     Ok(programs)
 }
 
+/// A wish for a word in place of the one at a position.
+fn wish_of(alloc: Global, position: u32, text: &str) -> Result<Edit, Memory> {
+    let word = word_of(alloc, WordKind::Name, text, position)?;
+    let at = word.origin;
+    let mut words = List::new(alloc);
+    words.push(word)?;
+    Ok(Edit {
+        program: 0,
+        position,
+        at,
+        words,
+    })
+}
+
 fn wishes_of(alloc: Global, wanted: &[(u32, &str)]) -> Result<List<Edit>, Memory> {
     let mut wishes = List::new(alloc);
-    for (position, text) in wanted {
-        let word = word_of(alloc, WordKind::Name, text, *position)?;
-        let at = word.origin;
-        let mut words = List::new(alloc);
-        words.push(word)?;
-        wishes.push(Edit {
-            program: 0,
-            position: *position,
-            at,
-            words,
-        })?;
+    for index in 0..wanted.len() {
+        let (position, text) = wanted[index];
+        wishes.push(wish_of(alloc, position, text)?)?;
     }
     Ok(wishes)
+}
+
+/// Adds the position of an edit with its words.
+fn add_edit(alloc: Global, into: &mut Bytes, edit: &Edit) -> Result<(), Memory> {
+    let position = edit.position.to_string(alloc)?;
+    into.append(position.as_bytes())?;
+    for word in edit.words.items() {
+        into.append(word.text.items())?;
+    }
+    Ok(())
 }
 
 /// The positions of edits with their words.
 fn text_of(alloc: Global, edits: &[Edit]) -> Result<Bytes, Memory> {
     let mut text = List::new(alloc);
     for edit in edits {
-        text.append(edit.position.to_string(alloc)?.as_bytes())?;
-        for word in edit.words.items() {
-            text.append(word.text.items())?;
-        }
+        add_edit(alloc, &mut text, edit)?;
     }
+    Ok(text)
+}
+
+/// The edits that wishes come to.
+fn chosen(alloc: Global, programs: &[Program], wanted: &[(u32, &str)]) -> Result<Bytes, Memory> {
+    let wishes = wishes_of(alloc, wanted)?;
+    let edits = chosen_edits(alloc, programs, wishes)?;
+    let text = text_of(alloc, edits.items())?;
     Ok(text)
 }
 
@@ -101,12 +125,32 @@ fn wishes_for_a_word_come_to_edits(rt: HostRuntime) -> Result<(), Fail> {
         (&[], ""),
     ];
     for (wanted, text) in cases {
-        let wishes = wishes_of(alloc, wanted)?;
-        let edits = chosen_edits(alloc, programs.items(), wishes)?;
-        let got = text_of(alloc, edits.items())?;
+        let got = chosen(alloc, programs.items(), wanted)?;
         assert!(rt; got.items() == text.as_bytes(), "{text}");
     }
     Ok(())
+}
+
+/// Whether the colon there has this length behind it.
+fn is_colon(words: &[Word], colon: u32, length: Option<u32>) -> Result<bool, Memory> {
+    let behind = length_behind(words, colon)?;
+    Ok(behind == length && start_before(colon) == colon.checked_sub(1))
+}
+
+/// Whether the first colon from a position on is there, with this length behind it.
+fn is_reference(
+    words: &[Word],
+    at: u32,
+    colon: Option<u32>,
+    length: Option<u32>,
+) -> Result<bool, Memory> {
+    match position_from(words, at, Sought::Colon)? {
+        None => Ok(colon.is_none()),
+        Some(found) => {
+            let with_length = is_colon(words, found, length)?;
+            Ok(colon == Some(found) && with_length)
+        }
+    }
 }
 
 #[test]
@@ -118,7 +162,6 @@ fn the_numbers_of_a_reference_stand_round_its_colon(rt: HostRuntime) -> Result<(
             "D", "(", "1", ")", "(", "3", ":", "2", ")", "E", "(", "5", ":", ")",
         ],
     )?;
-    let words = words.items();
     let cases: [(u32, Option<u32>, Option<u32>); 4] = [
         (0, Some(6), Some(7)),
         (6, Some(6), Some(7)),
@@ -126,36 +169,41 @@ fn the_numbers_of_a_reference_stand_round_its_colon(rt: HostRuntime) -> Result<(
         (13, None, None),
     ];
     for (at, colon, length) in cases {
-        assert!(rt; position_from(words, at, Sought::Colon)? == colon);
-        if let Some(colon) = colon {
-            assert!(rt; length_behind(words, colon)? == length);
-            assert!(rt; start_before(colon) == Some(colon - 1));
-        }
+        assert!(rt; is_reference(words.items(), at, colon, length)?);
     }
-    assert!(rt; position_from(words, 0, Sought::Picture)? == None);
+    let picture = position_from(words.items(), 0, Sought::Picture)?;
+    assert!(rt; picture == None);
     assert!(rt; start_before(0) == None);
     Ok(())
 }
 
-/// The index of one year, at the offset 4 of the area 1.
-fn index_of(alloc: Global, kind: YearKind, pivot: Option<u8>) -> Result<YearIndex, Memory> {
-    let place = BytePlace {
-        area: AreaId(1),
-        offset: 4,
-    };
+/// The index of one year.
+fn index_of(alloc: Global, year: Year, pivot: Option<u8>) -> Result<YearIndex, Memory>
+    requires { year.place.offset ≤ 65535 }
+{
     let mut modes = List::new(alloc);
     modes.push(YearMode {
-        year: Year { place, kind },
+        year,
         pivot,
         clash: false,
     })?;
     Ok(YearIndex::new(modes))
 }
 
+/// The new length of a span, and so many more; nothing where it doesn't get longer.
+fn length_text(alloc: Global, index: &YearIndex, span: Span, more: u64) -> Result<Bytes, Memory> {
+    match new_number(alloc, index, span, more)? {
+        None => Ok(List::new(alloc)),
+        Some(number) => Ok(number),
+    }
+}
+
 #[test]
 fn spans_with_a_year_get_longer(rt: HostRuntime) -> Result<(), Fail> {
     let alloc = rt.alloc();
     let packed = YearKind::Packed { digits: 5, unit: 3 };
+    let area = AreaId(1);
+    let place = BytePlace { area, offset: 4 };
     let cases: [(YearKind, Option<u8>, u32, u32, u64, &str); 6] = [
         (YearKind::Pair, None, 4, 6, 0, "8"),
         (YearKind::Pair, None, 0, 6, 1, "9"),
@@ -165,16 +213,14 @@ fn spans_with_a_year_get_longer(rt: HostRuntime) -> Result<(), Fail> {
         (YearKind::Pair, Some(50), 4, 6, 0, ""),
     ];
     for (kind, pivot, offset, length, more, text) in cases {
-        let index = index_of(alloc, kind, pivot)?;
+        let index = index_of(alloc, Year { place, kind }, pivot)?;
         let span = Span {
-            area: AreaId(1),
+            area,
             offset,
             length,
         };
-        match new_number(alloc, &index, span, more)? {
-            None => assert!(rt; text == ""),
-            Some(number) => assert!(rt; number.items() == text.as_bytes(), "{text}"),
-        }
+        let got = length_text(alloc, &index, span, more)?;
+        assert!(rt; got.items() == text.as_bytes(), "{text}");
     }
     Ok(())
 }
