@@ -1,5 +1,5 @@
 -- Texts with their words edited, and the clashes that stand against it.
-use Rattle.std.specs.Prelude.{◌≡◌, ◌⊎◌, ℕ, ◌+◌, Bool, true, ◌&&◌, List, [], ◌∷◌, ◌++◌}
+use Rattle.std.specs.Prelude.{◌≡◌, ◌⊎◌, ℕ, ◌+◌, true, List, [], ◌∷◌, ◌++◌}
 use Rattle.y2k_base.specs.declared.edit.Edit.{Edit}
 use Rattle.y2k_base.specs.declared.text.Text.{Text}
 use Rattle.y2k_base.specs.declared.word.FileId.{FileId}

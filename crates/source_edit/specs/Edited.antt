@@ -1,5 +1,5 @@
 -- Texts with their words edited.
-use Rattle.std.specs.Prelude.{◌≡◌, ℕ, true, List, [], Option}
+use Rattle.std.specs.Prelude.{◌≡◌, ℕ, true, List, []}
 use Rattle.y2k_base.specs.declared.word.FileId.{FileId}
 use Rattle.y2k_base.specs.declared.word.Word.{Word}
 use Rattle.fixed_format.specs.Columns.{lines}

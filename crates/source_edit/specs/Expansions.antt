@@ -1,5 +1,5 @@
 -- What programs read as before and after their texts are edited, and where that is not what their edits ask for.
-use Rattle.std.specs.Prelude.{◌≡◌, ◌⊎◌, ℕ, ◌+◌, List, [], ◌∷◌, ◌++◌, map, Option, Some, None, slice_get, if◌then◌else◌}
+use Rattle.std.specs.Prelude.{◌≡◌, ℕ, ◌+◌, List, [], ◌∷◌, ◌++◌, map, Option, Some, None, slice_get, if◌then◌else◌}
 use Rattle.y2k_base.specs.declared.edit.WordPlace.{WordPlace}
 use Rattle.y2k_base.specs.declared.text.Text.{Text}
 use Rattle.y2k_base.specs.declared.text.TextRole.{TextRole}

@@ -1,5 +1,5 @@
 -- The columns of a line, as far as they tell how lines are joined and what stays of them.
-use Rattle.std.specs.Prelude.{ℕ, ◌-◌, Bool, true, false, not, ◌&&◌, ◌||◌, ◌==◌, if◌then◌else◌, List, [], ◌∷◌, ◌++◌, length, drop, replicate, Option, Some, None, slice_get}
+use Rattle.std.specs.Prelude.{ℕ, ◌-◌, Bool, false, not, ◌&&◌, ◌||◌, ◌==◌, if◌then◌else◌, List, [], ◌∷◌, ◌++◌, length, drop, replicate, Option, Some, None, slice_get}
 use Rattle.fixed_format.specs.Columns.{body, cells, blanks, indicator, is_byte, is_empty, is_space, is_comment_indicator}
 
 -- the line ends with a line feed

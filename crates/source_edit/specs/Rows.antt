@@ -1,5 +1,5 @@
 -- The lines of a text with the words that begin on them, and which lines are joined because a word goes on from one to the next.
-use Rattle.std.specs.Prelude.{ℕ, zero, suc, ◌+◌, ◌-◌, Bool, true, false, not, ◌&&◌, ◌||◌, ◌==◌, nat_lt, if◌then◌else◌, List, [], ◌∷◌, ◌++◌, length, map, Option, Some, None, slice_get, flat_map}
+use Rattle.std.specs.Prelude.{ℕ, zero, suc, ◌+◌, ◌-◌, Bool, true, false, not, ◌&&◌, ◌||◌, ◌==◌, nat_lt, if◌then◌else◌, List, [], ◌∷◌, length, map, Option, Some, None, slice_get, flat_map}
 use Rattle.std.specs.Option.{unwrap_or}
 use Rattle.y2k_base.specs.declared.word.Origin.{Origin}
 use Rattle.y2k_base.specs.declared.word.Word.{Word}

@@ -1,6 +1,5 @@
 -- Lines with an edited word, laid anew with the lines that are joined to them.
-use Rattle.std.specs.Prelude.{ℕ, zero, suc, ◌+◌, ◌-◌, Bool, true, false, not, ◌&&◌, ◌||◌, ◌==◌, nat_lt, if◌then◌else◌, List, [], ◌∷◌, ◌++◌, length, take, drop, replicate, map, flat_map, Option, Some, None}
-use Rattle.std.specs.List.{filter}
+use Rattle.std.specs.Prelude.{ℕ, ◌+◌, ◌-◌, Bool, true, false, ◌&&◌, ◌==◌, nat_lt, if◌then◌else◌, List, [], ◌∷◌, ◌++◌, length, take, drop, replicate, map, flat_map, Option, Some, None}
 use Rattle.y2k_base.specs.declared.word.Word.{Word}
 use Rattle.fixed_format.specs.Columns.{body, leading, is_empty}
 use Rattle.line_layout.specs.Spelling.{is_tight_before, is_tight_after}

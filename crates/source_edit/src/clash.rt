@@ -12,12 +12,16 @@ use y2k_base::{Bytes, Edit, List, Memory, Origin, Word};
 
 /// Whether kind and text are equal.
 #[tactic(auto, unfolding(crate::specs::Clashes::same_words))]
-fn is_same(a: &Word, b: &Word) -> bool {
+fn is_same(a: &Word, b: &Word) -> bool
+    ensures { result ≡ spec.same_words a.now b.now }
+{
     a.kind == b.kind && a.text.items() == b.text.items()
 }
 
 /// How many words of two lists are the same before the first two that differ, or before one of the lists ends.
-pub fn same_count(first: &[Word], second: &[Word]) -> usize {
+pub fn same_count(first: &[Word], second: &[Word]) -> usize
+    ensures { result ≡ spec.same_count first.now second.now }
+{
     let mut left = first;
     let mut right = second;
     let mut count = 0usize;
@@ -28,7 +32,7 @@ pub fn same_count(first: &[Word], second: &[Word]) -> usize {
         if !is_same(a, b) {
             return count;
         }
-        count = count.saturating_add(1);
+        count += 1;
         left = more;
         right = others;
     }
@@ -36,13 +40,17 @@ pub fn same_count(first: &[Word], second: &[Word]) -> usize {
 }
 
 /// Whether the words are the same, whatever their origins.
-pub fn are_alike(first: &[Word], second: &[Word]) -> bool {
+pub fn are_alike(first: &[Word], second: &[Word]) -> bool
+    ensures { result ≡ spec.are_alike first.now second.now }
+{
     let count = same_count(first, second);
     count == first.len() && count == second.len()
 }
 
 /// The text of the word at that index, empty where there is none.
-pub fn text_at(alloc: Global, words: &[Word], index: usize) -> Result<Bytes, Memory> {
+pub fn text_at(alloc: Global, words: &[Word], index: usize) -> Result<Bytes, Memory>
+    ensures { IfOk result (λ text. text ≡ spec.text_at words.now index) }
+{
     match words.get(index) {
         Some(word) => copy_of(alloc, word.text.items()),
         None => Ok(List::new(alloc)),
@@ -50,7 +58,9 @@ pub fn text_at(alloc: Global, words: &[Word], index: usize) -> Result<Bytes, Mem
 }
 
 /// The clash of two words at an origin.
-pub fn clash(at: Origin, first: Bytes, second: Bytes) -> Limit {
+pub fn clash(at: Origin, first: Bytes, second: Bytes) -> Limit
+    ensures { result ≡ spec.clash at first second }
+{
     Limit {
         kind: LimitKind::CopyClash,
         at,
@@ -64,7 +74,9 @@ pub fn first_difference(
     at: Origin,
     first: &[Word],
     second: &[Word],
-) -> Result<Limit, Memory> {
+) -> Result<Limit, Memory>
+    ensures { IfOk result (λ limit. limit ≡ spec.first_difference at first.now second.now) }
+{
     let count = same_count(first, second);
     let left = text_at(alloc, first, count)?;
     let right = text_at(alloc, second, count)?;
@@ -78,7 +90,9 @@ fn add_clash(
     earlier: &[Word],
     later: &[Word],
     clashes: &mut List<Limit>,
-) -> Result<(), Memory> {
+) -> Result<(), Memory>
+    ensures { OnOk result (clashes.new ≡ clashes.old ++ spec.clash_of at earlier.now later.now) }
+{
     if !are_alike(earlier, later) {
         clashes.push(first_difference(alloc, at, earlier, later)?)?;
     }
@@ -99,7 +113,10 @@ fn change<'a>(
     edit: &'a Edit,
     changes: &mut Changes<'a>,
     clashes: &mut List<Limit>,
-) -> Result<(), Memory> {
+) -> Result<(), Memory>
+    ensures changes { OnOk result (changed changes.new ≡ spec.with_edit (changed changes.old) edit.now) }
+    ensures clashes { OnOk result (clashes.new ≡ clashes.old ++ spec.clash_with (changed changes.old) edit.now) }
+{
     match changes.at(edit.at) {
         None => {
             changes.put(edit.at, edit.words.items())?;
@@ -113,7 +130,11 @@ fn change<'a>(
 }
 
 /// Gathers edits. Each of several edits of one origin is held against the first.
-pub fn gathering_of(alloc: Global, edits: &[Edit]) -> Result<Gathering, Memory> {
+pub fn gathering_of(alloc: Global, edits: &[Edit]) -> Result<Gathering, Memory>
+    ensures changes { IfOk result (λ g. changed g.changes ≡ spec.changes_of edits.now) }
+    ensures replacements { IfOk result (λ g. replaced g.replacements ≡ spec.replacements_of edits.now) }
+    ensures clashes { IfOk result (λ g. g.clashes ≡ spec.edit_clashes edits.now) }
+{
     let mut changes = Changes::new(alloc);
     let mut replacements = Replacements::new(alloc);
     let mut clashes = List::new(alloc);

@@ -47,7 +47,9 @@ impl Drop for Sources {
 }
 
 /// The words of a text, if its lines have no fault.
-fn words_of(alloc: Global, text: &[u8], file: FileId) -> Result<Option<List<Word>>, Memory> {
+fn words_of(alloc: Global, text: &[u8], file: FileId) -> Result<Option<List<Word>>, Memory>
+    ensures { IfOk result (λ words. words ≡ spec.words_read file text.now) }
+{
     match read_lines(alloc, text, file) {
         Ok(lines) => {
             let words = copied(alloc, lines.words())?;
@@ -64,7 +66,9 @@ impl Sources {
         alloc: Global,
         key: &[u8],
         words: Option<List<Word>>,
-    ) -> Result<(), Memory> {
+    ) -> Result<(), Memory>
+        ensures { OnOk result (self.new ≡ spec.with_book self.old key.now words) }
+    {
         match words {
             Some(words) => {
                 let key = copy_of(alloc, key)?;
@@ -75,7 +79,9 @@ impl Sources {
         }
     }
 
-    fn add(&mut self, alloc: Global, text: &Text, file: FileId) -> Result<(), Memory> {
+    fn add(&mut self, alloc: Global, text: &Text, file: FileId) -> Result<(), Memory>
+        ensures { OnOk result (self.new ≡ spec.with_text self.old file text.now) }
+    {
         let words = words_of(alloc, text.bytes.items(), file)?;
         match text.role {
             TextRole::Program => {
@@ -91,7 +97,9 @@ impl Sources {
 }
 
 /// The words of texts, the first of which is the file of number 0.
-pub fn sources_of(alloc: Global, texts: &[Text]) -> Result<Sources, Memory> {
+pub fn sources_of(alloc: Global, texts: &[Text]) -> Result<Sources, Memory>
+    ensures { IfOk result (λ sources. sources ≡ spec.sources_of texts.now) }
+{
     let mut sources = Sources {
         books: Books {
             list: List::new(alloc),
@@ -109,7 +117,9 @@ pub fn sources_of(alloc: Global, texts: &[Text]) -> Result<Sources, Memory> {
 }
 
 /// The number after this one; past the last number of u32 is want of memory.
-pub fn next(number: u32) -> Result<u32, Memory> {
+pub fn next(number: u32) -> Result<u32, Memory>
+    ensures { IfOk result (λ next. next ≡ number + 1) }
+{
     match number.checked_add(1) {
         Some(next) => Ok(next),
         None => Err(Memory),
@@ -121,7 +131,9 @@ fn expansion_of_words(
     alloc: Global,
     words: &[Word],
     books: &Books,
-) -> Result<Option<List<Word>>, Memory> {
+) -> Result<Option<List<Word>>, Memory>
+    ensures { IfOk result (spec.Expands words.now books.now.list) }
+{
     match expand(alloc, words, books) {
         Ok(expanded) => Ok(Some(expanded.words)),
         Err(CopyFault::Memory) => Err(Memory),
@@ -132,11 +144,9 @@ fn expansion_of_words(
 }
 
 /// What a program reads as with its copybooks, if it has an expansion.
-fn expansion_of(
-    alloc: Global,
-    source: &Source,
-    books: &Books,
-) -> Result<Option<List<Word>>, Memory> {
+fn expansion_of(alloc: Global, source: &Source, books: &Books) -> Result<Option<List<Word>>, Memory>
+    ensures { IfOk result (spec.ReadsWith source.now.words books.now.list) }
+{
     match &source.words {
         None => Ok(None),
         Some(words) => match expansion_of_words(alloc, words.items(), books) {
@@ -152,7 +162,9 @@ fn add_at(
     words: &[Word],
     origin: Origin,
     into: &mut List<Word>,
-) -> Result<(), Memory> {
+) -> Result<(), Memory>
+    ensures { OnOk result (into.new ≡ into.old ++ spec.standing origin words.now) }
+{
     let mut rest = words;
     while let [word, more @ ..] = rest {
         into.push(Word {
@@ -172,7 +184,9 @@ fn add_edited(
     place: WordPlace,
     replacements: &Replacements,
     into: &mut List<Word>,
-) -> Result<(), Memory> {
+) -> Result<(), Memory>
+    ensures { OnOk result (into.new ≡ into.old ++ spec.stands word.now (replaced replacements.now place)) }
+{
     match replacements.at(place) {
         Some(words) => {
             add_at(alloc, words, word.origin, into)?;
@@ -191,7 +205,9 @@ fn edited_expansion(
     program: u32,
     words: &[Word],
     replacements: &Replacements,
-) -> Result<List<Word>, Memory> {
+) -> Result<List<Word>, Memory>
+    ensures { IfOk result (λ edited. edited ≡ spec.edited (replaced replacements.now) program 0 words.now) }
+{
     let mut edited = List::new(alloc);
     let mut position = 0u32;
     let mut rest = words;
@@ -205,7 +221,9 @@ fn edited_expansion(
 }
 
 /// The origin of the last word, or else the begin of the text.
-fn last_origin(words: &[Word], file: FileId) -> Origin {
+fn last_origin(words: &[Word], file: FileId) -> Origin
+    ensures { result ≡ spec.last_origin words.now file }
+{
     match words.last() {
         Some(last) => last.origin,
         None => Origin {
@@ -217,7 +235,9 @@ fn last_origin(words: &[Word], file: FileId) -> Origin {
 }
 
 /// The origin of the word at that index, or else that of the last word of the original.
-fn origin_at(edited: &[Word], index: usize, original: &[Word], file: FileId) -> Origin {
+fn origin_at(edited: &[Word], index: usize, original: &[Word], file: FileId) -> Origin
+    ensures { result ≡ spec.origin_at edited.now index original.now file }
+{
     match edited.get(index) {
         Some(word) => word.origin,
         None => last_origin(original, file),
@@ -232,7 +252,9 @@ fn add_difference(
     edited: &[Word],
     read: &[Word],
     into: &mut List<Limit>,
-) -> Result<(), Memory> {
+) -> Result<(), Memory>
+    ensures { OnOk result (into.new ≡ into.old ++ spec.difference file original.now edited.now read.now) }
+{
     if !are_alike(edited, read) {
         let at = origin_at(edited, same_count(edited, read), original, file);
         into.push(first_difference(alloc, at, edited, read)?)?;
@@ -248,7 +270,9 @@ fn add_clash(
     edited: &[Word],
     read: &Option<List<Word>>,
     into: &mut List<Limit>,
-) -> Result<(), Memory> {
+) -> Result<(), Memory>
+    ensures { OnOk result (into.new ≡ into.old ++ spec.clash_between file original.now edited.now read.now) }
+{
     match read {
         None => {
             let at = origin_at(edited, 0, original, file);
@@ -278,7 +302,9 @@ fn add_program_clash(
     replacements: &Replacements,
     pair: Pair,
     into: &mut List<Limit>,
-) -> Result<(), Memory> {
+) -> Result<(), Memory>
+    ensures { OnOk result (spec.AddsClash (replaced replacements.now) program pair.entry.source.now pair.entry.books.now.list pair.entry.new_source.now pair.entry.new_books.now.list into.old into.new) }
+{
     match expansion_of(alloc, pair.source, pair.books)? {
         None => Err(Memory),
         Some(original) => {
@@ -303,7 +329,9 @@ pub fn program_clashes(
     replacements: &Replacements,
     old: &Sources,
     new: &Sources,
-) -> Result<List<Limit>, Memory> {
+) -> Result<List<Limit>, Memory>
+    ensures { IfOk result (λ clashes. spec.AreProgramClashes (replaced replacements.now) old.now.books.list new.now.books.list 0 old.now.programs new.now.programs clashes) }
+{
     let mut clashes = List::new(alloc);
     let mut program = 0u32;
     let mut rest = old.programs.items();

@@ -45,14 +45,18 @@ impl From<Memory> for EditFault {
 }
 
 /// A clash as a fault. The limit is a clash of two words.
-pub fn fault_of(alloc: Global, limit: &Limit) -> EditFault {
+pub fn fault_of(alloc: Global, limit: &Limit) -> EditFault
+    ensures { spec.IsFaultOf limit.now result }
+{
     match words_of(alloc, limit) {
         Ok(fault) => fault,
         Err(_) => EditFault::Memory,
     }
 }
 
-fn words_of(alloc: Global, limit: &Limit) -> Result<EditFault, Memory> {
+fn words_of(alloc: Global, limit: &Limit) -> Result<EditFault, Memory>
+    ensures { IfOk result (spec.IsFaultOf limit.now) }
+{
     match &limit.kept {
         Kept::Words(first, second) => Ok(EditFault::CopyClash {
             at: limit.at,

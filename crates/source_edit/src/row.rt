@@ -40,7 +40,9 @@ impl Drop for Row {
 }
 
 /// The same word.
-pub fn word_copy(alloc: Global, word: &Word) -> Result<Word, Memory> {
+pub fn word_copy(alloc: Global, word: &Word) -> Result<Word, Memory>
+    ensures { IfOk result (λ copy. copy ≡ word.now) }
+{
     Ok(Word {
         text: copy_of(alloc, word.text.items())?,
         kind: word.kind,
@@ -49,7 +51,9 @@ pub fn word_copy(alloc: Global, word: &Word) -> Result<Word, Memory> {
 }
 
 /// Adds the same words.
-fn add_words(alloc: Global, words: &[Word], into: &mut List<Word>) -> Result<(), Memory> {
+fn add_words(alloc: Global, words: &[Word], into: &mut List<Word>) -> Result<(), Memory>
+    ensures { OnOk result (into.new ≡ into.old ++ words.now) }
+{
     let mut rest = words;
     while let [word, more @ ..] = rest {
         into.push(word_copy(alloc, word)?)?;
@@ -59,14 +63,18 @@ fn add_words(alloc: Global, words: &[Word], into: &mut List<Word>) -> Result<(),
 }
 
 /// The same words.
-pub fn copied(alloc: Global, words: &[Word]) -> Result<List<Word>, Memory> {
+pub fn copied(alloc: Global, words: &[Word]) -> Result<List<Word>, Memory>
+    ensures { IfOk result (λ copies. copies ≡ words.now) }
+{
     let mut copies = List::new(alloc);
     add_words(alloc, words, &mut copies)?;
     Ok(copies)
 }
 
 /// The word with the words of its edit.
-fn place_of(alloc: Global, word: &Word, changes: &Changes) -> Result<Placed, Memory> {
+fn place_of(alloc: Global, word: &Word, changes: &Changes) -> Result<Placed, Memory>
+    ensures { IfOk result (λ p. p ≡ spec.placed (changed changes.now) word.now) }
+{
     match changes.at(word.origin) {
         Some(words) => Ok(Placed {
             word: word_copy(alloc, word)?,
@@ -79,7 +87,9 @@ fn place_of(alloc: Global, word: &Word, changes: &Changes) -> Result<Placed, Mem
     }
 }
 
-pub fn is_picture(kind: WordKind) -> bool {
+pub fn is_picture(kind: WordKind) -> bool
+    ensures { result ≡ spec.is_picture kind }
+{
     match kind {
         WordKind::Picture => true,
         WordKind::Name | WordKind::Number | WordKind::Literal | WordKind::Mark => false,
@@ -88,12 +98,16 @@ pub fn is_picture(kind: WordKind) -> bool {
 
 impl Placed {
     /// The cell of the word on its line, from 0 at column 8.
-    pub fn cell(&self) -> usize {
+    pub fn cell(&self) -> usize
+        ensures { result ≡ spec.cell self.now }
+    {
         (self.word.origin.column as usize).saturating_sub(8)
     }
 
     /// Adds the words that are to stand in the place of the word.
-    pub fn add_to(&self, alloc: Global, into: &mut List<Word>) -> Result<(), Memory> {
+    pub fn add_to(&self, alloc: Global, into: &mut List<Word>) -> Result<(), Memory>
+        ensures { OnOk result (into.new ≡ into.old ++ spec.gives self.now) }
+    {
         match &self.change {
             Some(words) => {
                 add_words(alloc, words.items(), into)?;
@@ -113,7 +127,10 @@ fn on_line<'a>(
     number: u32,
     words: &'a [Word],
     changes: &Changes,
-) -> Result<(List<Placed>, &'a [Word]), Memory> {
+) -> Result<(List<Placed>, &'a [Word]), Memory>
+    ensures own { IfOk result (λ r. r.0 ≡ map (spec.placed (changed changes.now)) (spec.on_line number words.now)) }
+    ensures rest { IfOk result (λ r. r.1.now ≡ spec.behind_line number words.now) }
+{
     let mut own = List::new(alloc);
     let mut rest = words;
     while let [word, more @ ..] = rest {
@@ -126,7 +143,9 @@ fn on_line<'a>(
     Ok((own, rest))
 }
 
-fn next(number: u32) -> Result<u32, Memory> {
+fn next(number: u32) -> Result<u32, Memory>
+    ensures { IfOk result (λ next. next ≡ number + 1) }
+{
     match number.checked_add(1) {
         Some(next) => Ok(next),
         None => Err(Memory),
@@ -134,29 +153,21 @@ fn next(number: u32) -> Result<u32, Memory> {
 }
 
 /// The lines of a text, each with the words that begin on it.
-pub fn rows_of(alloc: Global, lines: &Lines, changes: &Changes) -> Result<List<Row>, Memory> {
+pub fn rows_of(alloc: Global, lines: &Lines, changes: &Changes) -> Result<List<Row>, Memory>
+    ensures { IfOk result (λ rows. (rows ≡ spec.rows_from (changed changes.now) 1 (text_lines lines.now) (text_words lines.now)) × (spec.left_over 1 (text_lines lines.now) (text_words lines.now) ≡ [])) }
+{
     let mut rows = List::new(alloc);
     let mut number = 1;
     let mut rest = lines.words();
-    for _ in 0..u64::MAX {
-        match lines.line(number) {
-            Some(line) => {
-                let (words, more) = on_line(alloc, number, rest, changes)?;
-                rows.push(Row {
-                    line: copy_of(alloc, line)?,
-                    words,
-                })?;
-                number = next(number)?;
-                rest = more;
-            }
-            None => return whole_rows(rows, rest),
-        }
+    while let Some(line) = lines.line(number) {
+        let (words, more) = on_line(alloc, number, rest, changes)?;
+        rows.push(Row {
+            line: copy_of(alloc, line)?,
+            words,
+        })?;
+        number = next(number)?;
+        rest = more;
     }
-    Err(Memory)
-}
-
-/// The rows, where no word is left.
-fn whole_rows(rows: List<Row>, rest: &[Word]) -> Result<List<Row>, Memory> {
     if rest.is_empty() {
         Ok(rows)
     } else {

@@ -15,7 +15,9 @@ use std::alloc::Global;
 use y2k_base::{Bytes, FileId, List, Memory, Word};
 
 /// The rows up to a count.
-fn first_rows(rows: &[Row], count: usize) -> &[Row] {
+fn first_rows(rows: &[Row], count: usize) -> &[Row]
+    ensures { result.now ≡ take count rows.now }
+{
     if count < rows.len() {
         &rows[..count]
     } else {
@@ -30,7 +32,10 @@ fn turn(
     more: &[Row],
     carry: usize,
     out: &mut Bytes,
-) -> Result<usize, Memory> {
+) -> Result<usize, Memory>
+    ensures count { IfOk result (λ n. n ≡ spec.covered_by carry row.now more.now) }
+    ensures out { OnOk result (out.new ≡ out.old ++ spec.turned carry row.now more.now) }
+{
     if is_edited(row) {
         let count = reach(carry_after(carry, row), more);
         let lines = stretch(alloc, is_joined(carry, row), row, first_rows(more, count))?;
@@ -50,7 +55,10 @@ fn row_turn(
     more: &[Row],
     carry: usize,
     out: &mut Bytes,
-) -> Result<usize, Memory> {
+) -> Result<usize, Memory>
+    ensures count { IfOk result (λ n. n ≡ spec.covered_after covered carry row.now more.now) }
+    ensures out { OnOk result (out.new ≡ out.old ++ spec.turned_after covered carry row.now more.now) }
+{
     if covered > 0 {
         Ok(covered - 1)
     } else {
@@ -62,7 +70,9 @@ fn row_turn(
 }
 
 /// The text of rows: the lines of rows without an edited word as they are, and the others laid anew.
-fn written(alloc: Global, rows: &[Row]) -> Result<Bytes, Memory> {
+fn written(alloc: Global, rows: &[Row]) -> Result<Bytes, Memory>
+    ensures { IfOk result (λ text. text ≡ spec.written 0 0 rows.now) }
+{
     let mut out = List::new(alloc);
     let mut covered = 0usize;
     let mut carry = 0usize;
@@ -83,7 +93,9 @@ pub struct EditedText {
 }
 
 /// Whether a text reads as the words.
-fn reads_as(alloc: Global, text: &[u8], file: FileId, words: &[Word]) -> Result<bool, Memory> {
+fn reads_as(alloc: Global, text: &[u8], file: FileId, words: &[Word]) -> Result<bool, Memory>
+    ensures { IfOk result (λ reads. reads ≡ true → edited.ReadsAs file words.now text.now) }
+{
     match read_lines(alloc, text, file) {
         Ok(lines) => Ok(are_alike(words, lines.words())),
         Err(LineFault::At { kind: _, at: _ }) => Ok(false),
@@ -92,7 +104,10 @@ fn reads_as(alloc: Global, text: &[u8], file: FileId, words: &[Word]) -> Result<
 }
 
 /// The text of rows, and whether it reads as their edited words.
-fn edited_rows(alloc: Global, file: FileId, rows: &[Row]) -> Result<EditedText, Memory> {
+fn edited_rows(alloc: Global, file: FileId, rows: &[Row]) -> Result<EditedText, Memory>
+    ensures bytes { IfOk result (λ new. new.bytes ≡ spec.written 0 0 rows.now) }
+    ensures reads { IfOk result (λ new. new.reads ≡ true → edited.ReadsAs file (new_of_rows rows.now) new.bytes) }
+{
     let bytes = written(alloc, rows)?;
     let mut words = List::new(alloc);
     add_new_of_rows(alloc, rows, &mut words)?;
@@ -106,7 +121,10 @@ pub fn edited_text(
     text: &[u8],
     file: FileId,
     changes: &Changes,
-) -> Result<EditedText, Memory> {
+) -> Result<EditedText, Memory>
+    ensures laid { IfOk result (λ new. edited.IsEditedText (changed changes.now) file text.now new.bytes) }
+    ensures reads { IfOk result (λ new. new.reads ≡ true → edited.ReadsAs file (edited.edited_words (changed changes.now) file text.now) new.bytes) }
+{
     match read_lines(alloc, text, file) {
         Ok(lines) => {
             let rows = rows_of(alloc, &lines, changes)?;

@@ -26,7 +26,9 @@ fn add_text(
     file: FileId,
     changes: &Changes,
     into: EditedTexts,
-) -> Result<EditedTexts, Memory> {
+) -> Result<EditedTexts, Memory>
+    ensures { IfOk result (λ new. spec.AddsText (changed changes.now) file text.now into new) }
+{
     let edited = edited_text(alloc, text.bytes.items(), file, changes)?;
     let new = Text {
         name: copy_of(alloc, text.name.items())?,
@@ -43,7 +45,10 @@ fn add_text(
 }
 
 /// The texts with their words edited.
-fn edited_texts(alloc: Global, texts: &[Text], changes: &Changes) -> Result<EditedTexts, Memory> {
+fn edited_texts(alloc: Global, texts: &[Text], changes: &Changes) -> Result<EditedTexts, Memory>
+    ensures texts { IfOk result (λ new. spec.AreEditedFrom (changed changes.now) 0 texts.now new.list) }
+    ensures read { IfOk result (λ new. new.read ≡ true → spec.AreReadFrom (changed changes.now) 0 texts.now new.list) }
+{
     let mut edited = EditedTexts {
         list: List::new(alloc),
         read: true,
@@ -67,7 +72,10 @@ fn edited_texts(alloc: Global, texts: &[Text], changes: &Changes) -> Result<Edit
 ///
 /// The texts have no fault in their lines and expand without one. Each edit names a word of a program's expansion by its position
 /// and origin, and brings words that fixed format has, no literal over 160 characters. What isn't so answers `Memory`.
-pub fn apply(alloc: Global, texts: &Texts, edits: &Edits) -> Result<Texts, EditFault> {
+pub fn apply(alloc: Global, texts: &Texts, edits: &Edits) -> Result<Texts, EditFault>
+    ensures ok { IfOk result (λ new. spec.AreApplied texts.now.list edits.now.list new.list) }
+    ensures err { IfErr result (spec.HasClash texts.now.list edits.now.list) }
+{
     let gathering = gathering_of(alloc, edits.list.items())?;
     match first_limit(gathering.clashes) {
         Some(clash) => Err(fault_of(alloc, &clash)),
