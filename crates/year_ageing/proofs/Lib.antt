@@ -1,0 +1,4 @@
+pub mod HalfLemmas
+pub mod Walk
+pub mod AgedLengths
+pub mod Steps
