@@ -20,7 +20,13 @@ mod run_words;
 #[cfg(test)]
 mod tests;
 mod top;
+#[cfg(test)]
+mod walk_tests;
+#[cfg(test)]
+mod walks;
 mod write_words;
+#[cfg(test)]
+mod written_tests;
 
 use answers::NO_MEMORY;
 use shelf::{FolderShelf, StdSink};
